@@ -20,7 +20,7 @@ pub struct Kept {
     pub at: usize,
 }
 
-fn kept(made: Made, letter: u8, out: &mut [u8], at: usize) -> Kept {
+fn made_as(made: Made, letter: u8, out: &mut [u8], at: usize) -> Kept {
     let to = put_byte(out, at, letter);
     match made {
         Made::Detector(d) => {
@@ -47,7 +47,7 @@ fn kept(made: Made, letter: u8, out: &mut [u8], at: usize) -> Kept {
 pub fn new(s: &[u8], out: &mut [u8], at: usize) -> Kept {
     let alpha = number(s, 2);
     let threshold = number(s, alpha.next);
-    kept(
+    made_as(
         EwmaDetector::new(float(alpha.value), float(threshold.value)),
         b'a',
         out,
@@ -61,7 +61,7 @@ pub fn with_options(s: &[u8], out: &mut [u8], at: usize) -> Kept {
     let threshold = number(s, alpha.next);
     let freeze = number(s, threshold.next);
     let warmup = number(s, freeze.next);
-    kept(
+    made_as(
         EwmaDetector::with_options(
             float(alpha.value),
             float(threshold.value),

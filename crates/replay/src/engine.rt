@@ -31,7 +31,7 @@ fn put_answer(out: &mut [u8], at: usize, answer: Answer) -> usize {
     }
 }
 
-fn told(done: Defined, letter: u8, out: &mut [u8], at: usize) -> Told {
+fn told_as(done: Defined, letter: u8, out: &mut [u8], at: usize) -> Told {
     let engine = done.engine;
     let answer = done.answer;
     let to = put_byte(out, at, letter);
@@ -56,14 +56,14 @@ pub fn new(s: &[u8]) -> Defined {
 }
 
 pub fn told_new(done: Defined, out: &mut [u8], at: usize) -> Told {
-    told(done, b'e', out, at)
+    told_as(done, b'e', out, at)
 }
 
 // `d`: one definition.
 pub fn define(e: SignalIdsEngine, s: &[u8], out: &mut [u8], at: usize) -> Told {
     let d = definition(s, 2);
     let def = d.definition;
-    told(e.define_signal(def), b'd', out, at)
+    told_as(e.define_signal(def), b'd', out, at)
 }
 
 // 64 definitions that nobody looks at.
@@ -94,7 +94,7 @@ fn definitions(s: &[u8], at: usize, n: u64) -> [SignalDefinition; 64] {
 pub fn batch(e: SignalIdsEngine, s: &[u8], out: &mut [u8], at: usize) -> Told {
     let count = number(s, 2);
     let defs = definitions(s, count.next, count.value);
-    told(
+    told_as(
         e.define_signals_batch(defs, count.value as usize),
         b'b',
         out,
@@ -105,7 +105,7 @@ pub fn batch(e: SignalIdsEngine, s: &[u8], out: &mut [u8], at: usize) -> Told {
 // `m`: a removal.
 pub fn remove(e: SignalIdsEngine, s: &[u8], out: &mut [u8], at: usize) -> Told {
     let slot = number(s, 2);
-    told(e.remove_signal(low16(slot.value)), b'm', out, at)
+    told_as(e.remove_signal(low16(slot.value)), b'm', out, at)
 }
 
 // The default definition defined, and its slot removed.

@@ -27,7 +27,7 @@ struct Machine {
 }
 
 // The answer's line ends.
-fn ended(m: Machine, out: &mut [u8], at: usize) -> Machine {
+fn ended(m: Machine, at: usize, out: &mut [u8]) -> Machine {
     let mut next = m;
     next.at = put_byte(out, at, b'\n');
     next
@@ -38,14 +38,14 @@ fn with_detector(m: Machine, k: Kept, out: &mut [u8]) -> Machine {
     let mut next = m;
     next.detector = detector;
     next.has_detector = k.made;
-    ended(next, out, k.at)
+    ended(next, k.at, out)
 }
 
 fn with_engine(m: Machine, t: Told, out: &mut [u8]) -> Machine {
     let engine = t.engine;
     let mut next = m;
     next.engine = engine;
-    ended(next, out, t.at)
+    ended(next, t.at, out)
 }
 
 // A fresh engine, or none where it was refused.
@@ -74,18 +74,18 @@ fn on_engine(m: Machine, letter: u8, s: &[u8], out: &mut [u8]) -> Machine {
         b'b' => with_engine(m, engine::batch(e, s, out, m.at), out),
         b'm' => with_engine(m, engine::remove(e, s, out, m.at), out),
         b'y' => with_engine(m, engine::passes(e, s, out, m.at), out),
-        _ => ended(m, out, engine::show(e, out, m.at)),
+        _ => ended(m, engine::show(e, out, m.at), out),
     }
 }
 
 fn answered(m: Machine, letter: u8, s: &[u8], data: &mut [u8], out: &mut [u8]) -> Machine {
     match letter {
-        b'r' => ended(m, out, plain::raw(s, data, out, m.at)),
-        b'w' => ended(m, out, plain::write(s, data, out, m.at)),
-        b'x' => ended(m, out, plain::signal(s, data, out, m.at)),
-        b'n' => ended(m, out, plain::unsigned(s, out, m.at)),
-        b'i' => ended(m, out, plain::signed(s, out, m.at)),
-        b'q' => ended(m, out, plain::root(s, out, m.at)),
+        b'r' => ended(m, plain::raw(s, data, out, m.at), out),
+        b'w' => ended(m, plain::write(s, data, out, m.at), out),
+        b'x' => ended(m, plain::signal(s, data, out, m.at), out),
+        b'n' => ended(m, plain::unsigned(s, out, m.at), out),
+        b'i' => ended(m, plain::signed(s, out, m.at), out),
+        b'q' => ended(m, plain::root(s, out, m.at), out),
         b'a' => with_detector(m, detecting::new(s, out, m.at), out),
         b'o' => with_detector(m, detecting::with_options(s, out, m.at), out),
         b'e' => fresh_engine(m, s, out),
@@ -107,16 +107,22 @@ fn answered(m: Machine, letter: u8, s: &[u8], data: &mut [u8], out: &mut [u8]) -
     }
 }
 
+// The first bytes of the buffer go out.
+fn sent(out: &[u8], at: usize) -> bool {
+    if out.len() < at {
+        return false;
+    }
+    io::write_all(STDOUT_FILENO, &out[..at])
+}
+
 // What was written goes out where the buffer is half full.
 fn flushed(m: Machine, room: usize, out: &[u8]) -> Machine {
     if m.at < room {
         return m;
     }
+    sent(out, m.at);
     let mut next = m;
     next.at = 0;
-    if m.at <= out.len() {
-        io::write_all(STDOUT_FILENO, &out[..m.at]);
-    }
     next
 }
 
@@ -128,13 +134,13 @@ fn line(m: Machine, s: &[u8], data: &mut [u8], out: &mut [u8]) -> Machine {
     flushed(next, 32768, out)
 }
 
-// The place of the next line feed from a place on, or the length.
-fn line_end(s: &[u8], at: usize) -> usize
-    requires { ⌜ at ≤ length (now s) ⌝ }
-    ensures { λ r. ⌜ (at ≤ r) × (r ≤ length (now (s .entry))) ⌝ }
+// The place of the next line feed in the first `n` bytes from a place on, or `n`.
+fn line_end(s: &[u8], at: usize, n: usize) -> usize
+    requires { ⌜ (at ≤ n) × (n ≤ length (now s)) ⌝ }
+    ensures { λ r. ⌜ (at ≤ r) × (r ≤ n) ⌝ }
 {
     let mut i = at;
-    while i < s.len() {
+    while i < n {
         if s[i] == b'\n' {
             return i;
         }
@@ -149,22 +155,24 @@ struct Done {
     used: usize,
 }
 
-// Every whole line, and the last one without its end where the input has ended.
-fn lines(m: Machine, s: &[u8], last: bool, data: &mut [u8], out: &mut [u8]) -> Done
-    ensures { λ r. ⌜ r .used ≤ length (now (s .entry)) ⌝ }
+// Every whole line in the first `n` bytes, and the last one without its end where the input has ended.
+fn lines(m: Machine, s: &[u8], n: usize, last: bool, data: &mut [u8], out: &mut [u8]) -> Done
+    requires { ⌜ n ≤ length (now s) ⌝ }
+    ensures { λ r. ⌜ r .used ≤ n ⌝ }
 {
     let mut machine = m;
     let mut at = 0;
-    while at < s.len() {
-        let end = line_end(s, at);
-        if end == s.len() {
+    while at < n {
+        let end = line_end(s, at, n);
+        if end == n {
             if last {
                 machine = line(machine, &s[at..end], data, out);
             }
             return Done { machine, used: at };
         }
+        let next = end + 1;
         machine = line(machine, &s[at..end], data, out);
-        at = end + 1;
+        at = next;
     }
     Done { machine, used: at }
 }
@@ -199,7 +207,7 @@ fn turn(st: State, input: &mut [u8], data: &mut [u8], out: &mut [u8]) -> State
     let machine = st.machine;
     let got = io::read_full(STDIN_FILENO, &mut input[have..]);
     let n = have + got;
-    let done = lines(machine, &input[..n], got == 0, data, out);
+    let done = lines(machine, input, n, got == 0, data, out);
     let used = done.used;
     let next = done.machine;
     let left = move_down(input, used, n);

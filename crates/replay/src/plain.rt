@@ -97,7 +97,7 @@ fn signed_of(n: u64) -> i64 {
     if n < 0x8000_0000_0000_0000 {
         return n as i64;
     }
-    (n - 0x8000_0000_0000_0000) as i64 - 0x7FFF_FFFF_FFFF_FFFF - 1
+    !((0xFFFF_FFFF_FFFF_FFFF - n) as i64)
 }
 
 // `i`: the f32 nearest to a signed number.

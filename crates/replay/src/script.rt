@@ -1,5 +1,6 @@
 // Reading a line of a script: hexadecimal numbers and bytes, parted by one blank.
-ghost use Prim.Native.Nat.{_≤_};
+ghost use Prim.Native.Nat.{_≤_, _<_};
+ghost use lib.ListN.{length};
 ghost use Rattle.io.specs.Counts.{Counts};
 use bits::ByteOrder;
 use conversion::Condition;
@@ -69,7 +70,7 @@ pub fn bytes(s: &[u8], at: usize, out: &mut [u8]) -> usize
 
 // The digit at a place, and 16 past the end.
 fn digit_at(s: &[u8], at: usize) -> u8
-    ensures { λ r. ⌜ r ≤ 16 ⌝ }
+    ensures { λ r. ⌜ (r ≤ 16) × (r < 16 → at < length (now (s .entry))) ⌝ }
 {
     if at < s.len() { digit(s[at]) } else { 16 }
 }

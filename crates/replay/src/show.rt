@@ -80,6 +80,10 @@ pub fn put_raw(out: &mut [u8], at: usize, raw: Raw) -> usize {
     }
 }
 
+fn wide(b: u8) -> u64 {
+    b as u64
+}
+
 // Bytes, `-` where there are none.
 pub fn put_bytes(out: &mut [u8], at: usize, bytes: &[u8]) -> usize {
     let mut to = put_byte(out, at, b' ');
@@ -88,22 +92,30 @@ pub fn put_bytes(out: &mut [u8], at: usize, bytes: &[u8]) -> usize {
     }
     let mut i = 0;
     while i < bytes.len() {
-        to = put_hex(out, to, bytes[i] as u64, 2);
+        to = put_hex(out, to, wide(bytes[i]), 2);
         i += 1;
     }
     to
 }
 
-pub fn put_detector(out: &mut [u8], at: usize, d: EwmaDetector) -> usize {
+fn put_floats(out: &mut [u8], at: usize, d: EwmaDetector) -> usize {
     let mean = put_float(out, at, d.mean);
     let variance = put_float(out, mean, d.variance);
     let alpha = put_float(out, variance, d.alpha);
-    let threshold = put_float(out, alpha, d.z_threshold);
-    let count = put_field(out, threshold, d.count as u64, 8);
+    put_float(out, alpha, d.z_threshold)
+}
+
+fn put_counts(out: &mut [u8], at: usize, d: EwmaDetector) -> usize {
+    let count = put_field(out, at, d.count as u64, 8);
     let frozen = put_field(out, count, d.frozen as u64, 8);
     let left = put_field(out, frozen, d.freeze_remaining as u64, 8);
     let duration = put_field(out, left, d.freeze_duration as u64, 8);
     put_field(out, duration, d.warmup_count as u64, 8)
+}
+
+pub fn put_detector(out: &mut [u8], at: usize, d: EwmaDetector) -> usize {
+    let floats = put_floats(out, at, d);
+    put_counts(out, floats, d)
 }
 
 fn order_number(order: ByteOrder) -> u64 {
@@ -120,15 +132,20 @@ fn condition_number(c: Condition) -> u64 {
     }
 }
 
-pub fn put_definition(out: &mut [u8], at: usize, d: SignalDefinition) -> usize {
+// The frames of a definition and the place of its bits there.
+fn put_place(out: &mut [u8], at: usize, d: SignalDefinition) -> usize {
     let order = d.byte_order;
-    let only = d.condition;
     let can_id = put_field(out, at, d.can_id as u64, 8);
     let extended = put_flag(out, can_id, d.is_extended);
     let start = put_field(out, extended, d.start_bit as u64, 4);
     let length = put_field(out, start, d.bit_length as u64, 2);
-    let byte_order = put_field(out, length, order_number(order), 1);
-    let scale = put_float(out, byte_order, d.scale);
+    put_field(out, length, order_number(order), 1)
+}
+
+pub fn put_definition(out: &mut [u8], at: usize, d: SignalDefinition) -> usize {
+    let only = d.condition;
+    let place = put_place(out, at, d);
+    let scale = put_float(out, place, d.scale);
     let offset = put_float(out, scale, d.offset);
     let name_hash = put_field(out, offset, d.name_hash as u64, 8);
     let signed = put_flag(out, name_hash, d.signed);

@@ -26,9 +26,10 @@ use Rattle.table.proofs.Regular.{after-keeps, empty-regular}
 -- ---- numbered definitions
 numbered-from : (s : ℕ) (l : List SignalDefinition) → every (λ g. (s ≤ g .slot) × (g .slot < s + length l)) (numbered s l)
 numbered-from s [] = tt
-numbered-from s (d ∷ l) =
-    ((omega arith, omega arith),
-    every-weaken (λ g. (s + 1 ≤ g .slot) × (g .slot < s + 1 + length l)) (λ g. (s ≤ g .slot) × (g .slot < s + length (d ∷ l))) (λ g h. (omega arith, omega arith)) (numbered (s + 1) l) (numbered-from (s + 1) l))
+numbered-from s (d ∷ l) = (
+  (omega arith, omega arith),
+  every-weaken (λ g. (s + 1 ≤ g .slot) × (g .slot < s + 1 + length l)) (λ g. (s ≤ g .slot) × (g .slot < s + length (d ∷ l))) (λ g h. (omega arith, omega arith)) (numbered (s + 1) l) (numbered-from (s + 1) l),
+)
 
 numbered-rising : (s : ℕ) (l : List SignalDefinition) → Rising (numbered s l)
 numbered-rising s [] = tt

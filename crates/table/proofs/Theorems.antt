@@ -3,7 +3,7 @@
 use mathlib.Core.Path.{_≡_, refl, sym, ap, _∙_}
 use mathlib.Core.Bool.{Bool, true, false, _&&_}
 use mathlib.Core.List.{List, [], _∷_}
-use Prim.Native.Nat.{ℕ, _+_, _≤_, _<_, min}
+use Prim.Native.Nat.{ℕ, _+_, _≤_}
 use native.Mathlib.Omega.{arith}
 use lib.Dec.{leb}
 use lib.Ieee.{Float}
@@ -17,7 +17,7 @@ use Rattle.table.specs.declared.Defined.{Defined}
 use Rattle.table.specs.declared.Entry.{Entry}
 use Rattle.table.specs.declared.SignalIdsEngine.{SignalIdsEngine}
 use Rattle.table.specs.Rows.{pick, every}
-use Rattle.table.specs.Table.{Table, Told, accepted, refused, tableOf, defined, created, lengthOk, scaleOk, idOk, muxOk, signOk, fault, entryOf, below, has, define′, remove′, batch′, appendedAll}
+use Rattle.table.specs.Table.{Table, Told, accepted, refused, live, tableOf, defined, created, lengthOk, scaleOk, idOk, muxOk, signOk, fault, entryOf, below, has, define′, remove′, batch′, appendedAll}
 use Rattle.table.specs.Calls.{TableCall, defines, batches, removes, told, brought, takenOut}
 use Rattle.table.specs.Regular.{Proper, Regular}
 use Rattle.table.proofs.Laws.{length-insert, length-drop-first}
@@ -132,7 +132,7 @@ batch-once e ds n r s p q = p ∙ sym q
 pub remove-once : (e : SignalIdsEngine) (slot : ℕ) (r s : Defined) → r ≡ defined e (remove′ (tableOf e) slot) → s ≡ defined e (remove′ (tableOf e) slot) → r ≡ s
 remove-once e slot r s p q = p ∙ sym q
 
-pub count-once : (e : SignalIdsEngine) (r s : ℕ) → r ≡ min (e .count) 64 → s ≡ min (e .count) 64 → r ≡ s
+pub count-once : (e : SignalIdsEngine) (r s : ℕ) → r ≡ length (live e) → s ≡ length (live e) → r ≡ s
 count-once e r s p q = p ∙ sym q
 
 pub next-once : (e : SignalIdsEngine) (r s : ℕ) → r ≡ e .«next_slot» → s ≡ e .«next_slot» → r ≡ s

@@ -2,7 +2,7 @@
 -- Assumes nothing.
 use mathlib.Core.Path.{_≡_, refl, sym, ap, _∙_}
 use mathlib.Core.Bool.{Bool, true, false, _&&_}
-use mathlib.Core.List.{List, [], _∷_}
+use mathlib.Core.List.{List}
 use Prim.Native.Nat.{ℕ, _+_, _≤_}
 use native.Mathlib.Omega.{arith}
 use lib.Dec.{leb}
@@ -14,10 +14,9 @@ use Rattle.conversion.specs.declared.SignalDefinition.{SignalDefinition}
 use Rattle.table.specs.declared.Answer.{Answer}
 use Rattle.table.specs.declared.Answer.the-variants.{Slot, Done, Refused}
 use Rattle.table.specs.declared.Defined.{Defined}
-use Rattle.table.specs.declared.Entry.{Entry}
 use Rattle.table.specs.declared.SignalIdsEngine.{SignalIdsEngine}
 use Rattle.table.specs.Rows.{pick, every}
-use Rattle.table.specs.Table.{Table, Told, accepted, refused, live, tableOf, defined, created, lengthOk, scaleOk, idOk, muxOk, signOk, fault, entryOf, below, has, define′, remove′, batch′, appendedAll}
+use Rattle.table.specs.Table.{Table, Told, accepted, refused, live, tableOf, defined, created, lengthOk, scaleOk, idOk, muxOk, signOk, fault, entryOf, below, has, define′, remove′, batch′}
 use Rattle.table.specs.Calls.{TableCall, defines, batches, removes, told, brought, takenOut}
 use Rattle.table.specs.Regular.{Proper, Regular}
 use Rattle.table.proofs.Laws.{length-insert, length-drop-first}

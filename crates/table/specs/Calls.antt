@@ -1,12 +1,14 @@
 -- Document 01, "The table", over any sequence of table calls: the table that they leave and the slots that they give.
 -- Assumes nothing.
-use mathlib.Core.List.{List, [], _∷_, _++_}
+use mathlib.Core.List.{List, [], _∷_, _++_, map}
 use Prim.Native.Nat.{ℕ, _+_}
 use lib.ListN.{take}
 use Rattle.conversion.specs.declared.SignalDefinition.{SignalDefinition}
 use Rattle.table.specs.declared.Signal.{Signal}
+use Rattle.table.specs.declared.Entry.{Entry}
 use Rattle.table.specs.declared.SignalIdsEngine.{SignalIdsEngine}
-use Rattle.table.specs.Table.{Table, Told, accepted, refused, tableOf, defined, define′, batch′, remove′}
+use Rattle.table.specs.Rows.{dropFirst}
+use Rattle.table.specs.Table.{Table, Told, accepted, refused, tableOf, defined, entryOf, has, define′, batch′, remove′}
 
 -- a table call, with its arguments
 pub data TableCall : Type 0 where
@@ -58,3 +60,25 @@ given s l (refused k) = []
 abbrev pub granted : Table → List TableCall → List Signal
 granted t [] = []
 granted t (c ∷ cs) = given (t .next) (brought c) (told t c) ++ granted (after t c) cs
+
+-- ---- the rows that an accepted call puts in, and those that it leaves
+abbrev pub newRows : Table → List SignalDefinition → List Entry
+newRows t l = map (λ s. entryOf (t .fresh) (s .slot) (s .definition)) (numbered (t .next) l)
+
+-- define puts its row before those with the same identifier
+abbrev pub rowsBefore : Table → TableCall → List Entry
+rowsBefore t (defines d) = newRows t (d ∷ [])
+rowsBefore t (batches ds n) = []
+rowsBefore t (removes s) = []
+
+-- a batch puts its own behind them, in batch order
+abbrev pub rowsBehind : Table → TableCall → List Entry
+rowsBehind t (defines d) = []
+rowsBehind t (batches ds n) = newRows t (take n ds)
+rowsBehind t (removes s) = []
+
+-- removal takes out the first row with the slot
+abbrev pub rowsLeft : Table → TableCall → List Entry
+rowsLeft t (defines d) = t .rows
+rowsLeft t (batches ds n) = t .rows
+rowsLeft t (removes s) = dropFirst (has s) (t .rows)

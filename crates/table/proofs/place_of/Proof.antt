@@ -1,0 +1,90 @@
+-- `table::place_of` meets its contract: before place i no row has the slot. Assumes nothing.
+use mathlib.Core.Path.{_≡_, sym, ap, _∙_}
+use mathlib.Core.Bool.{not}
+use Prim.Native.Nat.{ℕ, _+_, _-_, _≤_}
+use native.Mathlib.Omega.{arith}
+use borrow.Author.Tests.{eq-eqb, ne-eqb}
+use lib.ListN.{length, length-map, getD, take, drop}
+use Rattle.table.specs.declared.Entry.{Entry}
+use Rattle.table.specs.Rows.{front}
+use Rattle.table.specs.Table.{rowsOf, other}
+use Rattle.table.proofs.Laws.{front-next, front-stop, front-end}
+use Rattle.table.proofs.Columns.{past, Sound, length-rows, row-is}
+use Rattle.table.proofs.place_of.Statement.{statement}
+use Rattle.table.proofs.place_of.Tie as tie
+use Rattle.table.proofs.place_of.Reads as reads
+use Rattle.table.proofs.place_of.Lts as lts
+
+abbrev Inv-loop : tie.InvT-loop
+Inv-loop n slot e i₀ i = (i ≤ n) × (front (other slot) (take n (rowsOf e)) ≡ i + front (other slot) (drop i (take n (rowsOf e))))
+
+abbrev μ-loop : tie.MeasureT-loop
+μ-loop n slot e i₀ i = n - i
+
+sound : (c : tie.Start Inv-loop μ-loop) → Sound (c .args .t1)
+sound c =
+    record {
+      ids-64 = simp length-map at (c .good .0 .1 .1 .0 .1 .0 .1);
+      signals-64 = simp length-map at (c .good .0 .1 .1 .1 .0 .1 .0 .1);
+      detectors-64 = simp length-map at (c .good .0 .1 .1 .1 .1 .0 .1 .0 .1);
+    }
+
+loop-holds : tie.Need-loop-holds Inv-loop μ-loop
+loop-holds c = (omega arith, omega arith)
+
+mul-signal : tie.Need-mul-signal Inv-loop μ-loop
+mul-signal c = omega arith
+
+element-copy-out-signal : tie.Need-element-copy-out-signal Inv-loop μ-loop
+element-copy-out-signal c = omega arith
+
+returns : tie.Need-returns Inv-loop μ-loop
+returns c =
+    let start = c .before .before .before .before .before in
+    let turn = c .before .before .before .before .loop in
+    let e = start .args .t1 in
+    let slot-is = ap (λ (a : Entry). a .signal .slot) (row-is e (sound start) (turn .i)) in
+    let long = length-rows e (sound start) in
+    front-stop (other (start .args .slot)) (rowsOf e) (start .args .n) (turn .i) past (c .before .before .before .loop-test .taken) (omega arith) (ap not (eq-eqb _ _ (sym slot-is ∙ c .if1 .taken))) (turn .inv .1)
+
+add-i : tie.Need-add-i Inv-loop μ-loop
+add-i c = omega arith
+
+loop-less : tie.Need-loop-less Inv-loop μ-loop
+loop-less c = omega arith
+
+loop-again : tie.Need-loop-again Inv-loop μ-loop
+loop-again c =
+    let start = c .before .before .before .before .before in
+    let turn = c .before .before .before .before .loop in
+    let e = start .args .t1 in
+    let slot-is = ap (λ (a : Entry). a .signal .slot) (row-is e (sound start) (turn .i)) in
+    let long = length-rows e (sound start) in (
+      omega arith,
+      front-next (other (start .args .slot)) (rowsOf e) (start .args .n) (turn .i) past (c .before .before .before .loop-test .taken) (omega arith)
+          (ap not (ne-eqb _ _ (λ q. c .if1 .left (slot-is ∙ q))))
+          (turn .inv .1),
+    )
+
+returns-2 : tie.Need-returns-2 Inv-loop μ-loop
+returns-2 c =
+    let start = c .before .before in
+    let turn = c .before .loop in
+    let e = start .args .t1 in
+    let long = length-rows e (sound start) in
+    front-end (other (start .args .slot)) (rowsOf e) (start .args .n) (turn .i) (c .loop-test .left) (omega arith) (omega arith) (turn .inv .1)
+
+pub place-of-spec : {M : Type 1} → statement M
+place-of-spec =
+    tie.close
+    (tie.spec
+    Inv-loop
+    μ-loop
+    loop-holds
+    mul-signal
+    element-copy-out-signal
+    returns
+    add-i
+    loop-less
+    loop-again
+    returns-2)

@@ -120,3 +120,9 @@ pub fn definition(d: &SignalDefinition) -> String {
         d.multiplexor_value.map_or(0, |n| 0x10000 + n as u32),
     )
 }
+
+/// The eight digits of a float's bits, every NaN as the one that the log prints.
+pub fn bits(x: f32) -> String {
+    let bits = if x.is_nan() { 0x7FC0_0000 } else { x.to_bits() };
+    format!("{bits:08X}")
+}

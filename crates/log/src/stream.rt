@@ -52,10 +52,7 @@ pub fn start() -> Log
 {
     let made = SignalIdsEngine::new(0.0, 0.0);
     let engine = made.engine;
-    Log {
-        count: 0,
-        engine,
-    }
+    Log { count: 0, engine }
 }
 
 // The answer after a sound record of `used` bytes, with the engine that it left.

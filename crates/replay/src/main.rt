@@ -2,6 +2,7 @@
 // The same script goes to the Rust, and the two outputs are compared. The form of a script is in oracle/SCRIPTS.md.
 mod detecting;
 mod engine;
+mod framing;
 mod plain;
 mod script;
 mod show;
@@ -78,6 +79,14 @@ fn on_engine(m: Machine, letter: u8, s: &[u8], out: &mut [u8]) -> Machine {
     }
 }
 
+fn on_frame(m: Machine, letter: u8, s: &[u8], data: &mut [u8], out: &mut [u8]) -> Machine {
+    let e = m.engine;
+    match letter {
+        b'f' => with_engine(m, framing::frame(e, s, data, out, m.at), out),
+        _ => with_engine(m, framing::raw_frame(e, s, data, out, m.at), out),
+    }
+}
+
 fn answered(m: Machine, letter: u8, s: &[u8], data: &mut [u8], out: &mut [u8]) -> Machine {
     match letter {
         b'r' => ended(m, plain::raw(s, data, out, m.at), out),
@@ -92,6 +101,13 @@ fn answered(m: Machine, letter: u8, s: &[u8], data: &mut [u8], out: &mut [u8]) -
         b'u' | b'z' | b'c' => {
             if m.has_detector {
                 on_detector(m, letter, s, out)
+            } else {
+                m
+            }
+        }
+        b'f' | b'g' => {
+            if m.has_engine {
+                on_frame(m, letter, s, data, out)
             } else {
                 m
             }

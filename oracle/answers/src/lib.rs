@@ -1,5 +1,10 @@
 //! Scripts of library calls: how a line is read, and how answers are written. SCRIPTS.md has the form.
 
+pub mod framelog;
+pub mod generate;
+pub mod model;
+pub mod unchanged;
+
 use std::fmt::Write;
 use vs_anomaly::EwmaDetector;
 use vs_signal_ids::{ByteOrder, SignalDefinition};
@@ -125,4 +130,27 @@ pub fn definition(d: &SignalDefinition) -> String {
 pub fn bits(x: f32) -> String {
     let bits = if x.is_nan() { 0x7FC0_0000 } else { x.to_bits() };
     format!("{bits:08X}")
+}
+
+/// Both machines on one script: the Rust's answers, and the model's on lines of their own.
+#[derive(Default)]
+pub struct Both {
+    unchanged: unchanged::Machine,
+    model: model::Machine,
+}
+
+impl Both {
+    /// All lines for a call. The model's are left out where they are not asked for.
+    pub fn answer(&mut self, line: &str, with_model: bool, out: &mut String) {
+        let (letter, mut fields) = Fields::of(line);
+        if let Some(text) = self.unchanged.answer(letter, &mut fields) {
+            out.push_str(&text);
+            out.push('\n');
+        }
+        let (letter, mut fields) = Fields::of(line);
+        if let Some(text) = self.model.answer(letter, &mut fields).filter(|_| with_model) {
+            out.push_str(&text);
+            out.push('\n');
+        }
+    }
 }

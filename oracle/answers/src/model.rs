@@ -1,9 +1,7 @@
-//! Answers the calls of a script that the Rust has no counterpart for, by a plain model written from document 01: the writer,
-//! the case of a detector's answer, and the outcome of each definition that applies to a frame. Single extractions and detector
-//! steps are the Rust's.
+//! A plain model, written from document 01, of what the Rust has no counterpart for: the writer, the case of a detector's answer, and
+//! the outcome of each definition that applies to a frame. Single extractions and detector steps are the Rust's.
 
-use answers::{bytes, float, Fields};
-use std::io::{BufRead, BufWriter, Write};
+use crate::{bytes, float, Fields};
 use vs_anomaly::{look, EwmaDetector};
 use vs_signal_ids::{extract_signal, extract_signal_raw, ByteOrder, SignalDefinition};
 
@@ -150,14 +148,16 @@ impl Engine {
     }
 }
 
+/// The detector and the engine that a script acts on.
 #[derive(Default)]
-struct Machine {
+pub struct Machine {
     detector: Option<EwmaDetector>,
     engine: Option<Engine>,
 }
 
 impl Machine {
-    fn answer(&mut self, letter: &str, f: &mut Fields) -> Option<String> {
+    /// The answer to a call.
+    pub fn answer(&mut self, letter: &str, f: &mut Fields) -> Option<String> {
         match letter {
             "w" => return Some(written(f)),
             "a" => self.detector = EwmaDetector::new(f.float(), f.float()),
@@ -213,17 +213,5 @@ impl Machine {
             _ => {}
         }
         None
-    }
-}
-
-fn main() {
-    let mut machine = Machine::default();
-    let mut out = BufWriter::new(std::io::stdout().lock());
-    for line in std::io::stdin().lock().lines() {
-        let line = line.expect("a line");
-        let (letter, mut fields) = Fields::of(&line);
-        if let Some(text) = machine.answer(letter, &mut fields) {
-            writeln!(out, "{text}").expect("written");
-        }
     }
 }

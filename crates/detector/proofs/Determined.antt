@@ -1,9 +1,7 @@
 -- Two results that a promise of this crate allows are equal, for each public call. Assumes nothing.
 use mathlib.Core.Path.{_≡_, refl, sym, ap, _∙_}
-use mathlib.Core.Bool.{Bool}
 use Prim.Native.Nat.{ℕ}
 use lib.Ieee.{Float}
-use Rattle.detector.specs.declared.AnomalyScore.{AnomalyScore}
 use Rattle.detector.specs.declared.EwmaDetector.{EwmaDetector}
 use Rattle.detector.specs.declared.Made.{Made}
 use Rattle.detector.specs.declared.Made.the-variants as made
@@ -12,7 +10,7 @@ use Rattle.detector.specs.declared.Reset.the-variants as reset
 use Rattle.detector.specs.declared.Verdict.{Verdict}
 use Rattle.detector.specs.declared.Verdict.the-variants.{Ignored, First, Warming, Scored}
 use Rattle.detector.specs.declared.Updated.{Updated}
-use Rattle.detector.specs.Answers.{Configured, configured, unconfigured, madeMeans, resetMeans, Case, Score, verdictCase, verdictMeans}
+use Rattle.detector.specs.Answers.{madeMeans, resetMeans, verdictCase, verdictMeans}
 use Rattle.detector.specs.Ewma.{sqrtApprox, madeOf, idle, updated, resetOf, recalibrated}
 
 -- ---- the meaning of an answer tells all answers apart

@@ -4,7 +4,7 @@ use mathlib.Core.Path.{_≡_, refl, sym, ap, _∙_, subst}
 use mathlib.Core.Logic.{_⊎_, inl, inr}
 use Prim.Native.Nat.{ℕ, _-_, _<_, _≤_}
 use native.Mathlib.Omega.{arith}
-use mathlib.Core.Bool.{Bool, true, false, not, _&&_, _||_, cond}
+use mathlib.Core.Bool.{Bool, true, false, not, _||_, cond}
 use lib.Dec.{eqb, ltb}
 use borrow.Author.Tests.{eq-eqb, ne-eqb, lt-ltb, le-ltb, eqb-false, ltb-false}
 use lib.Ieee.{Float, lt}
@@ -13,8 +13,8 @@ use Rattle.detector.specs.declared.AnomalyScore.{AnomalyScore}
 use Rattle.detector.specs.declared.EwmaDetector.{EwmaDetector}
 use Rattle.detector.specs.declared.Verdict.the-variants.{Ignored, First, Warming, Scored}
 use Rattle.detector.specs.declared.Updated.{Updated}
-use Rattle.detector.specs.Answers.{Configured, configured, unconfigured}
-use Rattle.detector.specs.Ewma.{zero32, distance, newMean, newVariance, keptVariance, folded, held, settled, scoreOf, updated, withFreeze, withDuration, withStats, resetOf, recalibrated}
+use Rattle.detector.specs.Answers.{configured, unconfigured}
+use Rattle.detector.specs.Ewma.{zero32, distance, newMean, newVariance, folded, held, settled, scoreOf, updated, withFreeze, withDuration, withStats, resetOf, recalibrated}
 use Rattle.detector.proofs.Told.{chosen, other, or-yes, or-next, and-no, and-other}
 use Rattle.detector.proofs.Floats.{below-zero}
 

@@ -54,8 +54,6 @@ passing d = go (lengthOk d) refl (scaleOk d) refl (idOk d) refl (muxOk d) refl (
         let length-is = both-true (leb 1 (d .«bit_length»)) (leb (d .«bit_length») 64) p in
         let finite-are = both-true (finite (d .scale)) (finite (d .offset)) q in
         let id-is : d .«can_id» ≤ pick (d .«is_extended») 0x1FFFFFFF 0x7FF = leb-true (d .«can_id») (pick (d .«is_extended») 0x1FFFFFFF 0x7FF) r in
-        let mux-is : d .«bit_length» ≤ pick (d .«is_multiplexor») 16 255 = leb-true (d .«bit_length») (pick (d .«is_multiplexor») 16 255) s in
-        let sign-is : pick (d .signed) 2 0 ≤ d .«bit_length» = leb-true (pick (d .signed) 2 0) (d .«bit_length») t in
         record {
           long = leb-true 1 (d .«bit_length») (length-is .0);
           short = leb-true (d .«bit_length») 64 (length-is .1);
@@ -63,8 +61,8 @@ passing d = go (lengthOk d) refl (scaleOk d) refl (idOk d) refl (muxOk d) refl (
           offset = finite-are .1;
           standard = λ e. omega (arith, ap {B = ℕ} (λ (x : Bool). pick x 0x1FFFFFFF 0x7FF) e);
           extended = low-id (d .«is_extended») (d .«can_id») id-is;
-          multiplexor = λ e. omega (arith, ap {B = ℕ} (λ (x : Bool). pick x 16 255) e);
-          sign = λ e. omega (arith, ap {B = ℕ} (λ (x : Bool). pick x 2 0) e);
+          multiplexor = λ e. leb-true (d .«bit_length») 16 (sym (ap (λ (x : Bool). pick x (leb (d .«bit_length») 16) true) e) ∙ s);
+          sign = λ e. leb-true 2 (d .«bit_length») (sym (ap (λ (x : Bool). pick x (leb 2 (d .«bit_length»)) true) e) ∙ t);
         }
     go true p true q true r true s false t h = absurd (omega arith)
     go true p true q true r false s g t h = absurd (omega arith)

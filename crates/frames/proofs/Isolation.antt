@@ -29,7 +29,7 @@ use Rattle.frames.specs.declared.Report.{Report}
 use Rattle.frames.specs.declared.SignalIdsResult.{SignalIdsResult}
 use Rattle.frames.specs.Frames.{effectiveOf, payloadOf, typed, applies, selects, numberOf, multiplexorOf, stepRow, nextOf, advanced, reportOf, reports, answered, moved, processed, processedFrame}
 use Rattle.frames.specs.Isolation.{Call, tabled, framed, rawFramed, Said, gave, saw, Run, ended, defineRuns, batchRuns, removeRuns, frameRuns, rawFrameRuns, said, after, answers, ran, sameKey, concerns, answersTo, ofKey}
-use Rattle.frames.proofs.Moves.{next-stays}
+use Rattle.frames.proofs.Rows.{next-stays}
 use Rattle.frames.proofs.Theorems.{frame-table}
 
 -- ---- one key or two

@@ -4,15 +4,16 @@ use mathlib.Core.Path.{_≡_, refl, sym, ap, _∙_, subst}
 use mathlib.Core.Bool.{Bool, true, false}
 use mathlib.Core.Logic.{⊎-elim}
 use mathlib.Core.List.{List, [], _∷_, _++_, append-nil, append-assoc}
-use Prim.Native.Nat.{ℕ, _+_, _≤_, _<_, min}
+use Prim.Native.Nat.{ℕ, _+_, _≤_, _<_}
+use native.Mathlib.Decide.{decLe}
 use native.Mathlib.Omega.{arith}
 use lib.Dec.{eqb, ltb}
 use lib.ListN.{length, length-take, take}
-use borrow.Author.Tests.{eq-eqb, ne-eqb, eqb-true, eqb-false, ltb-true, ltb-false}
+use borrow.Author.Tests.{eq-eqb, ne-eqb, eqb-true, ltb-true, ltb-false}
 use Rattle.conversion.specs.declared.SignalDefinition.{SignalDefinition}
 use Rattle.table.specs.declared.Answer.{Answer}
 use Rattle.table.specs.declared.Entry.{Entry}
-use Rattle.table.specs.Rows.{pick, keep, insertBehind, every, pairs}
+use Rattle.table.specs.Rows.{pick, insertBehind, every}
 use Rattle.table.specs.Table.{Table, accepted, entryOf, below, appended, appendedAll}
 use Rattle.table.specs.Calls.{TableCall, defines, batches, removes, told, newRows, rowsBefore, rowsBehind, rowsLeft}
 use Rattle.table.specs.Regular.{Sorted, Regular, ofId, Order}
@@ -102,3 +103,51 @@ order t (batches ds n) a u g e k =
 order t (removes s) a u g e k =
     let f : RemoveAccepted t s a u = remove-accepted t s a u e in
     ap (λ (v : Table). ofId k (v .rows)) (f .table) ∙ sym (append-nil (ofId k (rowsLeft t (removes s))))
+
+-- ---- sorted rows are told by the rows of each identifier, so that the rule leaves one table
+-- where a row of the identifier is kept, no higher one stands first
+least : (a : Entry) (l m : List Entry) (k : ℕ) (b : Entry) → every (λ r. a .id ≤ r .id) l → ofId k (a ∷ l) ≡ b ∷ m → a .id ≤ k
+least a l m k b h e = go (decLe (a .id) k)
+  where
+    go : Dec (a .id ≤ k) → a .id ≤ k
+    go (yes q) = q
+    go (no q) =
+        let none : ofId k (a ∷ l) ≡ [] = none-of k (a ∷ l) (omega arith, every-weaken (λ r. a .id ≤ r .id) (λ r. k < r .id) (λ r j. omega arith) l h) in
+        let z : _≡_ {A = ℕ} 0 1 = cc in
+        absurd (omega arith)
+
+of-own : (a : Entry) (l : List Entry) → ofId (a .id) (a ∷ l) ≡ a ∷ ofId (a .id) l
+of-own a l = rw (eq-eqb (a .id) (a .id) refl)
+
+pub order-only : (l m : List Entry) → Sorted l → Sorted m → ((k : ℕ) → ofId k l ≡ ofId k m) → l ≡ m
+order-only [] [] s r h = refl
+order-only [] (b ∷ m) s r h =
+    let e : [] ≡ b ∷ ofId (b .id) m = h (b .id) ∙ of-own b m in
+    let z : _≡_ {A = ℕ} 0 1 = cc in
+    absurd (omega arith)
+order-only (a ∷ l) [] s r h =
+    let e : [] ≡ a ∷ ofId (a .id) l = sym (h (a .id)) ∙ of-own a l in
+    let z : _≡_ {A = ℕ} 0 1 = cc in
+    absurd (omega arith)
+order-only (a ∷ l) (b ∷ m) s r h = ap (λ (x : Entry). x ∷ l) heads ∙ ap (λ (x : List Entry). b ∷ x) (order-only l m (s .1) (r .1) tails)
+  where
+    same : a .id ≡ b .id
+    same =
+        let low : a .id ≤ b .id = least a l (ofId (b .id) m) (b .id) b (s .0) (h (b .id) ∙ of-own b m) in
+        let high : b .id ≤ a .id = least b m (ofId (a .id) l) (a .id) a (r .0) (sym (h (a .id)) ∙ of-own a l) in
+        omega arith
+
+    heads : a ≡ b
+    heads =
+        let e : a ∷ ofId (a .id) l ≡ b ∷ ofId (b .id) m =
+        sym (of-own a l) ∙ h (a .id) ∙ ap (λ (k : ℕ). ofId k (b ∷ m)) same ∙ of-own b m in
+        cc
+
+    tails : (k : ℕ) → ofId k l ≡ ofId k m
+    tails k = at (eqb (a .id) k) refl (eqb (b .id) k) (sym (ap (λ (x : Entry). eqb (x .id) k) heads)) (h k)
+      where
+        at : (c : Bool) → eqb (a .id) k ≡ c → (f : Bool) → f ≡ eqb (a .id) k → pick c (a ∷ ofId k l) (ofId k l) ≡ pick f (b ∷ ofId k m) (ofId k m) → ofId k l ≡ ofId k m
+        at true p true q e = cc
+        at false p false q e = e
+        at true p false q e = let z : _≡_ {A = Bool} true false = cc in let y : _≡_ {A = ℕ} 0 1 = cc in absurd (omega arith)
+        at false p true q e = let z : _≡_ {A = Bool} true false = cc in let y : _≡_ {A = ℕ} 0 1 = cc in absurd (omega arith)

@@ -82,3 +82,9 @@ abbrev pub rowsLeft : Table → TableCall → List Entry
 rowsLeft t (defines d) = t .rows
 rowsLeft t (batches ds n) = t .rows
 rowsLeft t (removes s) = dropFirst (has s) (t .rows)
+
+-- how many rows an accepted call takes out
+abbrev pub takenOut : TableCall → ℕ
+takenOut (defines d) = 0
+takenOut (batches ds n) = 0
+takenOut (removes s) = 1

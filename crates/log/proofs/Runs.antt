@@ -296,9 +296,9 @@ run-fits (suc f) room e log s =
     (λ _. (omega (arith, ih .0, step-used e log s, length-drop (m .used) s), omega (arith, ih .1, step-length e log s, length-append (m .text) (n .text))))
     (λ _. (step-used e log s, omega (arith, step-length e log s))))
 
-pub advance-fits : (d : List ℕ) (e : Bool) (log : Log) (s : List ℕ) (r : Step) (out : List ℕ) → Does d 0 (advanceOf (length d) e log s) r out
+pub advance-fits : {d : List ℕ} (e : Bool) (log : Log) (s : List ℕ) {r : Step} {out : List ℕ} → Does d 0 (advanceOf (length d) e log s) r out
     → (r .used ≤ length s) × Counts (r .end) out
-advance-fits d e log s r out p =
+advance-fits {d} e log s {r} {out} p =
     let fits = run-fits (suc (length s)) (length d) e log s in
     let long : length out ≡ length d = ap length (p .put .done) ∙ length-sets d 0 (advanceOf (length d) e log s .text) in
     let h : r .end ≤ length out = omega (arith, p .put .stop, fits .1) in

@@ -136,7 +136,13 @@ fn put_anomaly(out: &mut [u8], at: usize, n: u32, x: SignalAnomaly) -> usize
 }
 
 // A line for each of the first `count` anomalies.
-pub fn put_anomalies(out: &mut [u8], at: usize, n: u32, list: [SignalAnomaly; 8], count: usize) -> usize
+pub fn put_anomalies(
+    out: &mut [u8],
+    at: usize,
+    n: u32,
+    list: [SignalAnomaly; 8],
+    count: usize,
+) -> usize
     requires { ⌜ (count ≤ 8) × (at + 55 * count ≤ length (now out)) ⌝ }
     ensures { λ r. ⌜ Put (now (out .entry)) at (anomalyLines n (take count list)) r (now (out .exit)) ⌝ }
 {

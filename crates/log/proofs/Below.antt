@@ -8,8 +8,8 @@ use Rattle.table.specs.declared.Defined.{Defined}
 use Rattle.table.specs.Table.{tableOf, created, defined, define′, remove′}
 use Rattle.frames.specs.declared.CanFrame.{CanFrame}
 use Rattle.frames.specs.declared.Processed.{Processed}
-use Rattle.frames.specs.Frames.{processedFrame}
-use Rattle.frames.proofs.Laws as laws
+use Rattle.frames.specs.Frames.{payloadOf, effectiveOf, processedFrame}
+use Rattle.frames.proofs.Theorems.{few-anomalies}
 use Rattle.log.specs.Output.{createdBy, definedBy, removedBy, processedBy}
 
 pub by-new : {r : Defined} (a t : Float) → r ≡ created a t → r ≡ createdBy a t
@@ -31,4 +31,4 @@ by-frame e f p = p
 -- at most eight anomalies are listed
 pub few : (e : SignalIdsEngine) (f : CanFrame) → processedBy e f .result .«anomaly_count» ≤ 8
 unfolding processedBy
-few e f = laws.few e f
+few e f = few-anomalies e (effectiveOf f) (f .«is_extended») (f .«data») (payloadOf f)

@@ -4,3 +4,4 @@ pub mod Texts
 pub mod Steps
 pub mod Runs
 pub mod Seams
+pub mod Example

@@ -18,11 +18,11 @@ use Rattle.log.specs.declared.stream.Status.{Status}
 use Rattle.log.specs.declared.stream.Step.{Step}
 use Rattle.log.specs.Records.{itemOf}
 use Rattle.log.specs.Lines.{Put, anomalyLines}
-use Rattle.log.specs.Output.{processedBy, dataOf, Move, itemStep, stepOf, goesOn, run, outputFrom, stopStep, waitStep, requestStep, frameStep}
+use Rattle.log.specs.Output.{processedBy, frameAt, Move, itemStep, stepOf, goesOn, run, outputFrom, stopStep, waitStep, requestStep, frameStep}
 use Rattle.log.specs.Pieces.{Does, runOn, advanceOf, fullMove, behind, after, soundOf}
 use Rattle.log.proofs.Below.{few}
 use Rattle.log.proofs.Texts.{then, named, nothing}
-use Rattle.log.proofs.Steps.{going, choose, does, at-item, frame-same, has, counts-on, asks, step-count, step-length, step-used}
+use Rattle.log.proofs.Steps.{going, choose, does, at-item, has, counts-on, asks, step-count, step-length, step-used}
 
 -- a choice whose first side matters only where the test holds
 when {ℓ} : {A : Type ℓ} (b : Bool) (x y z : A) → (b ≡ true → x ≡ y) → cond b x z ≡ cond b y z
@@ -255,23 +255,19 @@ module _ {s : List ℕ} {e : Bool} {d : List ℕ} {log₀ : Log} {out : List ℕ
         pub frame-less : length s - (used + 16) < length s - used
         frame-less = omega (arith, frame-used)
 
-        module _ (bytes : List ℕ) (eb : bytes ≡ dataOf (take (length s - used) (drop used s)))
-            (y : Processed) (ey : y ≡ processedBy (log .engine) (record { id = id; «is_extended» = x; length = n; «data» = bytes })) where
-          frame-here : frameStep log (record { id = id; «is_extended» = x; length = n; «data» = bytes }) ≡ stepOf e log (drop used s)
-          frame-here =
-              frame-same log id x n bytes (dataOf (drop used s)) (eb ∙ ap dataOf (part-all s used)) ∙ at-item e log (drop used s) i (Item.Frame id x n) front q
+        module _ {f : CanFrame} (ef : f ≡ frameAt id x n (take (length s - used) (drop used s))) {y : Processed} (ey : y ≡ processedBy (log .engine) f) where
+          frame-here : frameStep log f ≡ stepOf e log (drop used s)
+          frame-here = ap (frameStep log) (ef ∙ ap (frameAt id x n) (part-all s used)) ∙ at-item e log (drop used s) i (Item.Frame id x n) front q
 
           -- its lines have room
           pub frame-room : (y .result .«anomaly_count» ≤ 8) × (end + 55 * y .result .«anomaly_count» ≤ length out)
           frame-room =
-              let f : CanFrame = record { id = id; «is_extended» = x; length = n; «data» = bytes } in
               let h : y .result .«anomaly_count» ≤ 8 = rw ey (few (log .engine) f) in
               (h, omega arith)
 
           pub frame-more : {end′ : ℕ} {out′ : List ℕ} → Put out end (anomalyLines (log .count + 1) (take (y .result .«anomaly_count») (y .result .anomalies))) end′ out′
               → Turned s e d log₀ out′ (record { count = log .count + 1; engine = y .engine }) (used + 16) end′
           frame-more {end′} {out′} p =
-              let f : CanFrame = record { id = id; «is_extended» = x; length = n; «data» = bytes } in
               more (frameStep log f) frame-here {r = soundOf log (y .engine) 16 end′}
               (record {
                 log = ap (λ (z : Processed). record { count = log .count + 1; engine = z .engine }) ey;
@@ -296,9 +292,9 @@ run-fits (suc f) room e log s =
     (λ _. (omega (arith, ih .0, step-used e log s, length-drop (m .used) s), omega (arith, ih .1, step-length e log s, length-append (m .text) (n .text))))
     (λ _. (step-used e log s, omega (arith, step-length e log s))))
 
-pub advance-fits : (d : List ℕ) (e : Bool) (log : Log) (s : List ℕ) (r : Step) (out : List ℕ) → Does d 0 (advanceOf (length d) e log s) r out
+pub advance-fits : {d : List ℕ} (e : Bool) (log : Log) (s : List ℕ) {r : Step} {out : List ℕ} → Does d 0 (advanceOf (length d) e log s) r out
     → (r .used ≤ length s) × Counts (r .end) out
-advance-fits d e log s r out p =
+advance-fits {d} e log s {r} {out} p =
     let fits = run-fits (suc (length s)) (length d) e log s in
     let long : length out ≡ length d = ap length (p .put .done) ∙ length-sets d 0 (advanceOf (length d) e log s .text) in
     let h : r .end ≤ length out = omega (arith, p .put .stop, fits .1) in

@@ -14,10 +14,10 @@ use Rattle.log.specs.declared.decode.Item.{Item}
 use Rattle.log.specs.declared.stream.Log.{Log}
 use Rattle.log.specs.declared.stream.Status.{Status}
 use Rattle.log.specs.Records.{itemOf, marked, markOf, sizeOf}
-use Rattle.log.specs.Output.{Move, stepOf, itemStep, dataOf, goesOn, outputFrom, output, startOf, waiting}
+use Rattle.log.specs.Output.{Move, stepOf, itemStep, frameStep, frameAt, dataOf, goesOn, outputFrom, output, startOf, waiting}
 use Rattle.log.specs.Pieces.{runOn, advanceOf, fullMove, behind, isEnded, left, concat, Calls, read, call, last}
 use Rattle.log.proofs.Front.{placed}
-use Rattle.log.proofs.Steps.{going, step-kinds, Kinds, item-taken, taken, frame-same}
+use Rattle.log.proofs.Steps.{going, step-kinds, Kinds, item-taken, taken}
 use Rattle.log.proofs.Runs.{output-step}
 
 -- ---- more bytes change no item but Wait
@@ -73,13 +73,16 @@ stable n (a ∷ b ∷ s) t = go (eqb n 4294967295) refl
 
 -- ---- nor a step but one that waits
 
+frame-same : (log : Log) (i : ℕ) (x : Bool) (n : ℕ) (s t : List ℕ) → dataOf s ≡ dataOf t → frameStep log (frameAt i x n s) ≡ frameStep log (frameAt i x n t)
+frame-same log i x n s t e = ap (λ (l : List ℕ). frameStep log (record { id = i; «is_extended» = x; length = n; «data» = l })) e
+
 item-same : (log : Log) (s t : List ℕ) (i : Item) → taken i ≤ length s → (itemStep false log s i ≡ waiting log) ⊎ (itemStep true log (s ++ t) i ≡ itemStep false log s i)
 item-same log s t Item.Wait h = inl refl
 item-same log s t (Item.Call q) h = inr refl
 item-same log s t (Item.Frame i x n) h =
     let l : 8 ≤ length s = omega arith in
     let l′ : 8 ≤ length (drop 8 s) = omega (arith, length-drop 8 s) in
-    inr (frame-same log i x n (dataOf (s ++ t)) (dataOf s) (ap (take 8) (drop-append-le 8 s t l) ∙ take-append-le 8 (drop 8 s) t l′))
+    inr (frame-same log i x n (s ++ t) s (ap (take 8) (drop-append-le 8 s t l) ∙ take-append-le 8 (drop 8 s) t l′))
 item-same log s t (Item.Stop k) h = inr refl
 
 pub step-stable : (e : Bool) (log : Log) (s t : List ℕ) → (e ≡ true → t ≡ []) → (stepOf e log s ≡ waiting log) ⊎ (stepOf true log (s ++ t) ≡ stepOf e log s)

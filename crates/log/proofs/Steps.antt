@@ -24,7 +24,7 @@ use Rattle.log.specs.declared.stream.Step.{Step}
 use Rattle.log.specs.declared.stream.Status.{Status}
 use Rattle.log.specs.Records.{itemOf, marked, markOf, sizeOf, misplaced, recordOf, settingsOf, defineOf, removeOf, frameOf, badFlags, definitionOf, le16, le32}
 use Rattle.log.specs.Lines.{Put, ascii, decimal, numbers, line, answerLine, anomalyLines, endLine}
-use Rattle.log.specs.Output.{createdBy, definedBy, removedBy, processedBy, countedOf, dataOf, Move, itemStep, stepOf, settingsStep, settledStep, requestStep, frameStep, goStep, stopStep, waitStep, lastNumber, goesOn, waiting}
+use Rattle.log.specs.Output.{createdBy, definedBy, removedBy, processedBy, countedOf, dataOf, frameAt, Move, itemStep, stepOf, settingsStep, settledStep, requestStep, frameStep, goStep, stopStep, waitStep, lastNumber, goesOn, waiting}
 use Rattle.log.specs.Pieces.{Does, after, soundOf}
 use Rattle.log.proofs.Texts.{line-length, answer-length, lines-length, length-take-min, nothing}
 use Rattle.log.proofs.Below.{few}
@@ -34,7 +34,10 @@ pub choose : {A : Type 0} (P : A → Type 0) (b : Bool) (x y : A) → (b ≡ tru
 choose P true x y p q = p refl
 choose P false x y p q = q refl
 
-pub eight : (s : List ℕ) → 16 ≤ length s
+abbrev frameOf′ : ℕ → Bool → ℕ → List ℕ → CanFrame
+frameOf′ id x n l = record { id = id; «is_extended» = x; length = n; «data» = l }
+
+eight : (s : List ℕ) → 16 ≤ length s
     → getD s 8 0 ∷ getD s 9 0 ∷ getD s 10 0 ∷ getD s 11 0 ∷ getD s 12 0 ∷ getD s 13 0 ∷ getD s 14 0 ∷ getD s 15 0 ∷ [] ≡ dataOf s
 eight s h =
     rw (
@@ -47,6 +50,12 @@ eight s h =
       drop-cons s 14 0 (omega arith),
       drop-cons s 15 0 (omega arith),
     ) refl
+
+-- the data bytes one by one
+pub framed : (id : ℕ) (x : Bool) (n : ℕ) (s : List ℕ) → 16 ≤ length s
+    → record { id = id; «is_extended» = x; length = n; «data» = getD s 8 0 ∷ getD s 9 0 ∷ getD s 10 0 ∷ getD s 11 0 ∷ getD s 12 0 ∷ getD s 13 0 ∷ getD s 14 0 ∷ getD s 15 0 ∷ [] }
+    ≡ frameAt id x n s
+framed id x n s h = ap (λ (l : List ℕ). frameOf′ id x n l) (eight s h)
 
 -- ---- how many bytes an item takes: 0 if the log does not go on
 
@@ -118,6 +127,10 @@ asks (Request.Remove k) = omega arith
 pub does : {d e : List ℕ} {at : ℕ} {m n : Move} {r : Step} → m ≡ n → Does d at m r e → Does d at n r e
 does {d} {e} {at} {m} {n} {r} q p = subst (λ (x : Move). Does d at x r e) q p
 
+-- the same answer under another name
+pub told : {d e : List ℕ} {at : ℕ} {m : Move} {r q : Step} → r ≡ q → Does d at m q e → Does d at m r e
+told {d} {e} {at} {m} {r} {q} w p = subst (λ (x : Step). Does d at m x e) (sym w) p
+
 pub at-item : (ended : Bool) (log : Log) (s : List ℕ) (i j : Item) → i ≡ itemOf (log .count) s → i ≡ j → itemStep ended log s j ≡ stepOf ended log s
 unfolding stepOf
 at-item ended log s i j p q = ap (itemStep ended log s) (sym q ∙ p)
@@ -135,10 +148,6 @@ sounds {d} {e} {at} {n} {end} log {text} {g} {r} q p =
 
 pub at-end : (used : ℕ) (log : Log) (ended : Bool) (left k : ℕ) → ended ≡ true → k ≡ lastNumber left → after used (stopStep log k) ≡ after used (waitStep ended log left)
 at-end used log ended left k p q = rw (p, q) refl
-
-pub frame-same : (log : Log) (i : ℕ) (x : Bool) (n : ℕ) (p q : List ℕ) → p ≡ q
-    → frameStep log (record { id = i; «is_extended» = x; length = n; «data» = p }) ≡ frameStep log (record { id = i; «is_extended» = x; length = n; «data» = q })
-frame-same log i x n p q e = ap (λ (l : List ℕ). frameStep log (record { id = i; «is_extended» = x; length = n; «data» = l })) e
 
 -- ---- what a step may be: it waits, or it is the last, or it takes bytes that are there
 
@@ -222,7 +231,7 @@ item-length : (ended : Bool) (log : Log) (s : List ℕ) (i : Item) → length (i
 item-length true log s Item.Wait = omega (arith, line-length (ascii "end ") (log .count) (ascii " ") (lastNumber (length s)))
 item-length false log s Item.Wait = omega arith
 item-length ended log s (Item.Call q) = request-length log q
-item-length ended log s (Item.Frame i x n) = frame-length log (record { id = i; «is_extended» = x; length = n; «data» = dataOf s })
+item-length ended log s (Item.Frame i x n) = frame-length log (frameAt i x n s)
 item-length ended log s (Item.Stop k) = omega (arith, line-length (ascii "end ") (log .count) (ascii " ") k)
 
 pub step-length : (ended : Bool) (log : Log) (s : List ℕ) → length (stepOf ended log s .text) ≤ 512

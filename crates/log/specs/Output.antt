@@ -100,12 +100,15 @@ frameStep log f =
 abbrev pub dataOf : List ℕ → List ℕ
 dataOf s = take 8 (drop 8 s)
 
+abbrev pub frameAt : ℕ → Bool → ℕ → List ℕ → CanFrame
+frameAt id extended n s = record { id = id; «is_extended» = extended; length = n; «data» = dataOf s }
+
 -- what an item does that stands at the front of the bytes s; `ended` says whether the input ends with them
 abbrev pub itemStep : Bool → Log → List ℕ → Item → Move
 itemStep ended log s Item.Wait = waitStep ended log (length s)
 itemStep ended log s (Item.Stop k) = stopStep log k
 itemStep ended log s (Item.Call q) = requestStep log q
-itemStep ended log s (Item.Frame i x n) = frameStep log (record { id = i; «is_extended» = x; length = n; «data» = dataOf s })
+itemStep ended log s (Item.Frame i x n) = frameStep log (frameAt i x n s)
 
 unfoldable pub stepOf : Bool → Log → List ℕ → Move
 stepOf ended log s = itemStep ended log s (itemOf (log .count) s)

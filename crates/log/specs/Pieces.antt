@@ -48,9 +48,12 @@ pub record Does (d : List ℕ) (at : ℕ) (m : Move) (r : Step) (e : List ℕ) :
   pub put : Put d at (m .text) (r .end) e
   pub status : r .status ≡ m .status
 
+abbrev pub answerOf : Log → ℕ → ℕ → Status → Step
+answerOf log used end status = record { log = log; used = used; end = end; status = status }
+
 -- the answer after a sound record
 abbrev pub soundOf : Log → SignalIdsEngine → ℕ → ℕ → Step
-soundOf log e used end = record { log = countedOf log e; used = used; end = end; status = Status.Going }
+soundOf log e used end = answerOf (countedOf log e) used end Status.Going
 
 -- ---- a run of calls
 

@@ -2,8 +2,8 @@
 ghost use mathlib.Core.Path.{_≡_};
 ghost use Prim.Native.Nat.{_+_, _<_, _≤_};
 ghost use lib.ListN.{length, take, drop};
-ghost use Rattle.log.specs.Output.{startOf, dataOf, goesOn, lastNumber, stopStep, waitStep, settledStep, settingsStep, defineStep, removeStep, requestStep};
-ghost use Rattle.log.specs.Pieces.{Does, after, soundOf, advanceOf};
+ghost use Rattle.log.specs.Output.{startOf, frameAt, goesOn, lastNumber, stopStep, waitStep, settledStep, settingsStep, defineStep, removeStep, requestStep};
+ghost use Rattle.log.specs.Pieces.{Does, after, answerOf, soundOf, advanceOf};
 use crate::decode::Item;
 use crate::decode::Request;
 use crate::decode::item_at_front;
@@ -45,8 +45,7 @@ pub struct Step {
     pub status: Status,
 }
 
-// A log before its first record. The engine is the empty one that comes beside refused settings: a threshold of 0 would do,
-// an alpha of 0 does not.
+// A log before its first record. Its engine is the empty one that refused settings leave.
 pub fn start() -> Log
     ensures { λ r. ⌜ r ≡ startOf ⌝ }
 {
@@ -55,29 +54,42 @@ pub fn start() -> Log
     Log { count: 0, engine }
 }
 
+fn answer(log: Log, used: usize, end: usize, status: Status) -> Step
+    ensures { λ r. ⌜ r ≡ answerOf log used end status ⌝ }
+{
+    Step {
+        log,
+        used,
+        end,
+        status,
+    }
+}
+
 // The answer after a sound record of `used` bytes, with the engine that it left.
 fn sound(log: Log, engine: SignalIdsEngine, used: usize, end: usize) -> Step
     requires { ⌜ log .count < 4294967295 ⌝ }
     ensures { λ r. ⌜ r ≡ soundOf log engine used end ⌝ }
 {
     let n = log.count;
-    let log = Log {
+    let next = Log {
         count: n + 1,
         engine,
     };
-    Step {
-        log,
-        used,
-        end,
-        status: Status::Going,
-    }
+    answer(next, used, end, Status::Going)
 }
 
-fn data_of(s: &[u8]) -> [u8; 8]
+// The frame whose header was read at the front of s: its data bytes stand behind.
+fn frame_of(id: u32, is_extended: bool, len: u8, s: &[u8]) -> CanFrame
     requires { ⌜ 16 ≤ length (now s) ⌝ }
-    ensures { λ r. ⌜ r ≡ dataOf (now (s .entry)) ⌝ }
+    ensures { λ r. ⌜ r ≡ frameAt id «is_extended» len (now (s .entry)) ⌝ }
 {
-    [s[8], s[9], s[10], s[11], s[12], s[13], s[14], s[15]]
+    let data = [s[8], s[9], s[10], s[11], s[12], s[13], s[14], s[15]];
+    CanFrame {
+        id,
+        is_extended,
+        length: len,
+        data,
+    }
 }
 
 // The stopping number where the input ends with so many bytes that are no whole record.
@@ -97,12 +109,7 @@ fn on_stop(log: Log, used: usize, k: u8, out: &mut [u8], at: usize) -> Step
 {
     let n = log.count;
     let end = put_end(out, at, n, k);
-    Step {
-        log,
-        used,
-        end,
-        status: Status::Ended,
-    }
+    answer(log, used, end, Status::Ended)
 }
 
 // No whole record at hand: at the end of the input the log ends, and else it waits.
@@ -113,12 +120,7 @@ fn on_wait(log: Log, used: usize, left: usize, ended: bool, out: &mut [u8], at: 
     if ended {
         return on_stop(log, used, last_number(left), out, at);
     }
-    Step {
-        log,
-        used,
-        end: at,
-        status: Status::Waiting,
-    }
+    answer(log, used, at, Status::Waiting)
 }
 
 // Settings that are refused stop the log.
@@ -214,23 +216,13 @@ pub fn advance(log: Log, s: &[u8], ended: bool, out: &mut [u8]) -> Step
                 used += r.used;
                 end = r.end;
                 if !goes_on(status) {
-                    return Step {
-                        log: next,
-                        used,
-                        end,
-                        status,
-                    };
+                    return answer(next, used, end, status);
                 }
                 engine = next.engine;
                 count = next.count;
             }
             Item::Frame(id, is_extended, length) => {
-                let frame = CanFrame {
-                    id,
-                    is_extended,
-                    length,
-                    data: data_of(&s[used..]),
-                };
+                let frame = frame_of(id, is_extended, length, &s[used..]);
                 let done = process_frame(engine, frame);
                 engine = done.engine;
                 let result = done.result;
@@ -241,10 +233,5 @@ pub fn advance(log: Log, s: &[u8], ended: bool, out: &mut [u8]) -> Step
             }
         }
     }
-    Step {
-        log: Log { count, engine },
-        used,
-        end,
-        status: Status::Full,
-    }
+    answer(Log { count, engine }, used, end, Status::Full)
 }

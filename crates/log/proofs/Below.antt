@@ -1,5 +1,5 @@
 -- The promises of the layers below under the names that the log's definitions use, and the one law about frames that the log needs. Assumes nothing.
-use mathlib.Core.Path.{_≡_, refl, sym, _∙_}
+use mathlib.Core.Path.{_≡_}
 use Prim.Native.Nat.{ℕ, _≤_}
 use lib.Ieee.{Float}
 use Rattle.conversion.specs.declared.SignalDefinition.{SignalDefinition}

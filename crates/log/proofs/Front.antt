@@ -1,10 +1,10 @@
 -- What stands at the front, once the first three tests have passed. Assumes nothing.
-use mathlib.Core.Path.{_≡_, refl, ap, _∙_, sym, subst}
-use mathlib.Core.Bool.{Bool, true, false, cond}
+use mathlib.Core.Path.{_≡_, refl}
+use mathlib.Core.Bool.{Bool, true, false}
 use mathlib.Core.List.{List}
 use Prim.Native.Nat.{ℕ, _<_, _≤_}
 use lib.ListN.{length, getD, take}
-use borrow.Author.Tests.{eq-eqb, ne-eqb, lt-ltb, le-ltb}
+use borrow.Author.Tests.{ne-eqb, lt-ltb, le-ltb}
 use Rattle.log.specs.Records.{itemOf, marked, markOf, sizeOf, misplaced, recordOf, le16, badFlags, defineOf, definitionOf}
 use Rattle.log.specs.declared.decode.Mark.{Mark}
 use Rattle.log.specs.declared.decode.Request.{Request}

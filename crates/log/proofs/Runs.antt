@@ -1,7 +1,7 @@
 -- The runs: their fuel does not show, so each is its first step and the run behind it; and the loop of `advance`. Assumes nothing.
-use mathlib.Core.Path.{_≡_, refl, sym, _∙_, ap, subst}
+use mathlib.Core.Path.{_≡_, refl, sym, _∙_, ap}
 use mathlib.Core.Bool.{Bool, true, false, cond, not}
-use mathlib.Core.List.{List, [], _∷_, _++_, append-assoc, append-nil}
+use mathlib.Core.List.{List, [], _++_, append-assoc, append-nil}
 use Prim.Native.Nat.{ℕ, zero, suc, _+_, _-_, _*_, _^_, _<_, _≤_}
 use native.Mathlib.Omega.{arith}
 use lib.ListN.{length, take, drop, length-append, length-drop}
@@ -18,7 +18,7 @@ use Rattle.log.specs.declared.stream.Status.{Status}
 use Rattle.log.specs.declared.stream.Step.{Step}
 use Rattle.log.specs.Records.{itemOf}
 use Rattle.log.specs.Lines.{Put, anomalyLines}
-use Rattle.log.specs.Output.{processedBy, frameAt, Move, itemStep, stepOf, goesOn, run, outputFrom, stopStep, waitStep, requestStep, frameStep}
+use Rattle.log.specs.Output.{processedBy, frameAt, Move, stepOf, goesOn, run, outputFrom, stopStep, waitStep, requestStep, frameStep}
 use Rattle.log.specs.Pieces.{Does, runOn, advanceOf, fullMove, behind, after, soundOf}
 use Rattle.log.proofs.Below.{few}
 use Rattle.log.proofs.Texts.{then, named, nothing}

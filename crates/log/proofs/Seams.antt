@@ -1,24 +1,27 @@
--- Where a read of the input ended never shows: `seam` for one call, `calls` for any run of them. Assumes nothing.
-use mathlib.Core.Path.{_≡_, refl, sym, _∙_, ap, subst}
-use mathlib.Core.Bool.{Bool, true, false, cond, not}
+-- Where a read of the input ended never shows: `seam` for one call, `any-cutting` for any run of them. Assumes nothing.
+use mathlib.Core.Path.{_≡_, refl, sym, _∙_, ap}
+use mathlib.Core.Bool.{Bool, true, false, cond}
 use mathlib.Core.List.{List, [], _∷_, _++_, append-assoc, append-nil}
 use mathlib.Core.Logic.{_⊎_, inl, inr}
-use Prim.Native.Nat.{ℕ, zero, suc, _+_, _-_, _<_, _≤_}
+use Prim.Native.Nat.{ℕ, zero, suc, _+_, _-_, _≤_}
 use native.Mathlib.Omega.{arith}
-use lib.ListN.{length, take, drop, getD, length-append, length-drop}
+use lib.ListN.{length, take, drop, length-append, length-drop}
 use lib.Seq.{drop-drop, drop-append-le, take-append-le}
 use lib.Dec.{ltb, eqb}
-use borrow.Author.Tests.{le-ltb, lt-ltb, ltb-false, eq-eqb, ne-eqb, eqb-true, eqb-false}
+use borrow.Author.Tests.{le-ltb, ltb-false, ne-eqb, eqb-true, eqb-false}
 use Rattle.log.specs.declared.decode.Mark.{Mark}
+use Rattle.table.specs.declared.SignalIdsEngine.{SignalIdsEngine}
+use Rattle.table.specs.declared.Answer.{Answer}
+use Rattle.log.specs.declared.decode.Request.{Request}
 use Rattle.log.specs.declared.decode.Item.{Item}
 use Rattle.log.specs.declared.stream.Log.{Log}
 use Rattle.log.specs.declared.stream.Status.{Status}
 use Rattle.log.specs.Records.{itemOf, marked, markOf, sizeOf}
-use Rattle.log.specs.Output.{Move, stepOf, itemStep, frameStep, frameAt, dataOf, goesOn, outputFrom, output, startOf, waiting}
+use Rattle.log.specs.Output.{createdBy, settledStep, Move, stepOf, itemStep, frameStep, frameAt, dataOf, goesOn, outputFrom, output, startOf, waiting}
 use Rattle.log.specs.Pieces.{runOn, advanceOf, fullMove, behind, isEnded, left, concat, Calls, read, call, last}
 use Rattle.log.proofs.Front.{placed}
-use Rattle.log.proofs.Steps.{going, step-kinds, Kinds, item-taken, taken}
-use Rattle.log.proofs.Runs.{output-step}
+use Rattle.log.proofs.Steps.{choose, going, step-kinds, Kinds, item-taken, taken}
+use Rattle.log.proofs.Runs.{output-step, on-last, on-more}
 
 -- ---- more bytes change no item but Wait
 
@@ -32,7 +35,8 @@ placed-stable n s t k = go (ltb (length s) (sizeOf k)) refl
         let h′ : sizeOf k ≤ length (s ++ t) = omega (arith, length-append s t) in
         inr (rw (q, le-ltb (length (s ++ t)) (sizeOf k) h′, take-append-le (sizeOf k) s t h) refl)
 
-last-count : (n : ℕ) (s : List ℕ) → (length s ≡ 0 → ⊥) → n ≡ 4294967295 → itemOf n s ≡ Item.Stop 15
+-- after 4,294,967,295 records more bytes give 15, whatever they are
+pub last-count : (n : ℕ) (s : List ℕ) → (length s ≡ 0 → ⊥) → n ≡ 4294967295 → itemOf n s ≡ Item.Stop 15
 unfolding itemOf
 last-count n s h q = rw (ne-eqb (length s) 0 h, q) refl
 
@@ -98,6 +102,24 @@ step-stable false log s t h = go (stable (log .count) s t)
             → (stepOf false log s ≡ waiting log) ⊎ (stepOf true log (s ++ t) ≡ stepOf false log s)
         pick (inl w) = inl w
         pick (inr w) = inr (ap (itemStep true log (s ++ t)) q ∙ w)
+
+-- at the end of the input no step waits
+never-waits : (log : Log) (s : List ℕ) → stepOf true log s ≡ waiting log → ⊥
+unfolding stepOf
+never-waits log s = go (itemOf (log .count) s)
+  where
+    sets-out : (e : SignalIdsEngine) (a : Answer) → settledStep log e a ≡ waiting log → ⊥
+    sets-out e Answer.Done q = let z : _≡_ {A = ℕ} 0 1 = cc (ap (λ (m : Move). m .status) q) in omega arith
+    sets-out e (Answer.Slot k) q = let z : _≡_ {A = ℕ} 0 1 = cc (ap (λ (m : Move). m .status) q) in omega arith
+    sets-out e (Answer.Refused k) q = let z : _≡_ {A = ℕ} 0 1 = cc (ap (λ (m : Move). m .status) q) in omega arith
+
+    go : (i : Item) → itemStep true log s i ≡ waiting log → ⊥
+    go Item.Wait q = let z : _≡_ {A = ℕ} 0 1 = cc (ap (λ (m : Move). m .status) q) in omega arith
+    go (Item.Stop k) q = let z : _≡_ {A = ℕ} 0 1 = cc (ap (λ (m : Move). m .status) q) in omega arith
+    go (Item.Call (Request.Settings a t)) q = sets-out (createdBy a t .engine) (createdBy a t .answer) q
+    go (Item.Call (Request.Define d)) q = let z : _≡_ {A = ℕ} 0 1 = cc (ap (λ (m : Move). m .status) q) in omega arith
+    go (Item.Call (Request.Remove k)) q = let z : _≡_ {A = ℕ} 0 1 = cc (ap (λ (m : Move). m .status) q) in omega arith
+    go (Item.Frame i x n) q = let z : _≡_ {A = ℕ} 0 1 = cc (ap (λ (m : Move). m .status) q) in omega arith
 
 -- ---- one call
 
@@ -179,6 +201,32 @@ calls {log} (read {p = p} {x = x} {xs = xs} c) = calls c ∙ ap (outputFrom log)
 calls {log} {p} {xs} (call {t = t} room e h m q d c) = seam-on room e log p (concat xs) t m h q d (calls c)
 calls {log} {p} {xs} (last room e h m q d) = seam-last room e log p (concat xs) m h q d
 
--- and from the start that is the definition of the program's output
-pub from-start : (xs : List (List ℕ)) (u : List ℕ) → Calls startOf [] xs u → u ≡ output (concat xs)
-from-start xs u c = calls c
+-- THE THEOREM: for any cutting of the input into pieces, and any rooms, what the calls print joined is the output of the whole
+pub any-cutting : (xs : List (List ℕ)) (u : List ℕ) → Calls startOf [] xs u → u ≡ output (concat xs)
+any-cutting xs u c = calls c
+
+-- ---- such runs come to their end: no call leaves the log between two records that it could take, and with the room that
+-- one record needs a call that is told of the end of the input ends the log or takes a byte at least
+
+pub never-going : (room : ℕ) (e : Bool) (log : Log) (s : List ℕ) → goesOn (advanceOf room e log s .status) ≡ false
+unfolding runOn
+never-going room e log s = go (suc (length s)) room log s
+  where
+    go : (f room : ℕ) (log : Log) (s : List ℕ) → goesOn (runOn f room e log s .status) ≡ false
+    go zero room log s = refl
+    go (suc f) room log s =
+        let m = stepOf e log s in
+        choose (λ (n : Move). goesOn (n .status) ≡ false) (ltb room 512) (fullMove log) _ (λ _. refl)
+        (λ _. choose (λ (n : Move). goesOn (n .status) ≡ false) (goesOn (m .status)) (behind m (runOn f (room - length (m .text)) e (m .log) (drop (m .used) s))) m
+        (λ _. go f (room - length (m .text)) (m .log) (drop (m .used) s)) (λ q. q))
+
+pub moves-on : (room : ℕ) (log : Log) (s : List ℕ) → 512 ≤ room → (advanceOf room true log s .status ≡ Status.Ended) ⊎ (1 ≤ advanceOf room true log s .used)
+moves-on room log s h = go (step-kinds true log s)
+  where
+    go : Kinds log s (stepOf true log s) → (advanceOf room true log s .status ≡ Status.Ended) ⊎ (1 ≤ advanceOf room true log s .used)
+    go (inl w) = absurd (never-waits log s w)
+    go (inr (inl d)) = inl (ap (λ (n : Move). n .status) (on-last room true log s h (ap goesOn d)) ∙ d)
+    go (inr (inr g)) =
+        let n = advanceOf (room - length (stepOf true log s .text)) true (stepOf true log s .log) (drop (stepOf true log s .used) s) in
+        let u : advanceOf room true log s .used ≡ stepOf true log s .used + n .used = ap (λ (x : Move). x .used) (on-more room true log s h (ap goesOn (g .0))) in
+        inr (omega (arith, u, g .1))

@@ -1,21 +1,17 @@
 -- One record: how many bytes it takes, and how much it prints. What `advance` promises leaves one answer. Assumes nothing.
 use mathlib.Core.Path.{_≡_, refl, sym, _∙_, ap, subst}
 use mathlib.Core.Bool.{Bool, true, false, cond, not}
-use mathlib.Core.List.{List, [], _∷_, _++_}
+use mathlib.Core.List.{List, [], _∷_}
 use mathlib.Core.Logic.{_⊎_, inl, inr}
-use Prim.Native.Nat.{ℕ, zero, suc, _+_, _-_, _^_, _<_, _≤_}
+use Prim.Native.Nat.{ℕ, _+_, _-_, _^_, _<_, _≤_}
 use native.Mathlib.Omega.{arith}
-use lib.ListN.{length, take, drop, getD, length-append}
+use lib.ListN.{length, take, getD}
 use lib.Seq.{drop-cons}
 use lib.Dec.{ltb, leb, eqb, T}
-use lib.Ieee.{Float}
 use borrow.Author.Tests.{ltb-false, eqb-false}
-use Rattle.conversion.specs.declared.SignalDefinition.{SignalDefinition}
 use Rattle.table.specs.declared.SignalIdsEngine.{SignalIdsEngine}
 use Rattle.table.specs.declared.Answer.{Answer}
-use Rattle.table.specs.declared.Defined.{Defined}
 use Rattle.frames.specs.declared.CanFrame.{CanFrame}
-use Rattle.frames.specs.declared.Processed.{Processed}
 use Rattle.log.specs.declared.decode.Mark.{Mark}
 use Rattle.log.specs.declared.decode.Request.{Request}
 use Rattle.log.specs.declared.decode.Item.{Item}
@@ -23,8 +19,8 @@ use Rattle.log.specs.declared.stream.Log.{Log}
 use Rattle.log.specs.declared.stream.Step.{Step}
 use Rattle.log.specs.declared.stream.Status.{Status}
 use Rattle.log.specs.Records.{itemOf, marked, markOf, sizeOf, misplaced, recordOf, settingsOf, defineOf, removeOf, frameOf, badFlags, definitionOf, le16, le32}
-use Rattle.log.specs.Lines.{Put, ascii, decimal, numbers, line, answerLine, anomalyLines, endLine}
-use Rattle.log.specs.Output.{createdBy, definedBy, removedBy, processedBy, countedOf, dataOf, frameAt, Move, itemStep, stepOf, settingsStep, settledStep, requestStep, frameStep, goStep, stopStep, waitStep, lastNumber, goesOn, waiting}
+use Rattle.log.specs.Lines.{Put, ascii}
+use Rattle.log.specs.Output.{createdBy, definedBy, removedBy, processedBy, startOf, dataOf, frameAt, Move, itemStep, stepOf, settledStep, requestStep, frameStep, goStep, stopStep, waitStep, lastNumber, goesOn, waiting}
 use Rattle.log.specs.Pieces.{Does, after, soundOf}
 use Rattle.log.proofs.Texts.{line-length, answer-length, lines-length, length-take-min, nothing}
 use Rattle.log.proofs.Below.{few}
@@ -260,7 +256,13 @@ step-used ended log s = omega (arith, item-used ended log s (itemOf (log .count)
     item-used ended log s (Item.Frame i x n) = omega arith
     item-used ended log s (Item.Stop k) = omega arith
 
--- ---- a promise by Does leaves one answer and one buffer
+-- ---- each promise leaves one answer, and `advance`'s one buffer
+
+pub one-start : (r q : Log) → r ≡ startOf → q ≡ startOf → r ≡ q
+one-start r q p w = p ∙ sym w
+
+pub one-item : (n : ℕ) (s : List ℕ) (r q : Item) → r ≡ itemOf n s → q ≡ itemOf n s → r ≡ q
+one-item n s r q p w = p ∙ sym w
 
 alike : (r q : Step) → r .log ≡ q .log → r .used ≡ q .used → r .end ≡ q .end → r .status ≡ q .status → r ≡ q
 alike r q a b d e =

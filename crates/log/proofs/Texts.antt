@@ -3,15 +3,15 @@ use mathlib.Core.Path.{_≡_, refl, sym, _∙_, ap, subst}
 use mathlib.Core.Bool.{Bool, true, false, cond}
 use mathlib.Core.List.{List, [], _∷_, _++_, append-assoc, append-nil}
 use Prim.Native.Nat.{ℕ, zero, suc, _+_, _-_, _*_, _/_, _%_, _^_, _<_, _≤_}
-use native.Mathlib.Nat.{add-zero, le-trans, one-le-pow, pow-le-pow-right}
+use native.Mathlib.Nat.{add-zero, one-le-pow, pow-le-pow-right}
 use native.Mathlib.Numerals.{add-one}
 use native.Mathlib.Omega.{arith}
 use native.Mathlib.Decide.{decLt}
 use lib.ListN.{length, take, set, getD, length-append, length-take}
-use lib.Seq.{sets, length-sets, take-suc, take-all, length-take-le}
+use lib.Seq.{sets, take-suc, take-all, length-take-le}
 use lib.Dec.{ltb}
 use borrow.Author.Tests.{lt-ltb, le-ltb}
-use Rattle.io.specs.Digits.{digits, glyph, Fewest}
+use Rattle.io.specs.Digits.{digits, Fewest}
 use Rattle.log.specs.Lines.{Put, ascii, dec, decimal, numbers, line, field, answerLine, anomalyLine, anomalyLines, hex8}
 use lib.Ieee.{Float}
 use Rattle.table.specs.declared.Answer.{Answer}

@@ -1,15 +1,12 @@
-use lib.ListN.{length-set}
-use mathlib.Core.Path.{_≡_, refl, sym, _∙_, ap, subst}
-use Prim.Native.Nat.{ℕ, _≤_, _-_, _+_}
+use lib.ListN.{length-set, length, take, drop}
+use mathlib.Core.Path.{_≡_, refl, _∙_, ap}
+use Prim.Native.Nat.{ℕ, _≤_, _-_}
 use native.Mathlib.Omega.{arith}
-use lib.ListN.{length, take, drop}
-use lib.Seq.{sets, length-sets}
+use lib.Seq.{sets}
 use denote.Ref.{now}
 use Rattle.framelog.proofs.Down.{down}
 use Rattle.framelog.proofs.move_down.Statement.{statement}
 use Rattle.framelog.proofs.move_down.Tie as tie
-use Rattle.framelog.proofs.move_down.Reads as reads
-use Rattle.framelog.proofs.move_down.Lts as lts
 
 abbrev Inv-loop : tie.InvT-loop
 Inv-loop buf₀ from to n i₀ buf i = (i ≤ n) × (length buf ≡ length buf₀) × (buf ≡ sets buf₀ 0 (take i (drop from buf₀)))
@@ -17,43 +14,33 @@ Inv-loop buf₀ from to n i₀ buf i = (i ≤ n) × (length buf ≡ length buf�
 abbrev μ-loop : tie.MeasureT-loop
 μ-loop buf₀ from to n i₀ buf i = n - i
 
--- src/main.rt:35:13
 sub-n : tie.Need-sub-n Inv-loop μ-loop
 sub-n c = omega arith
 
--- src/main.rt:37:5
 loop-holds : tie.Need-loop-holds Inv-loop μ-loop
 loop-holds c = (omega arith, refl, refl)
 
--- src/main.rt:38:22
 add-buf : tie.Need-add-buf Inv-loop μ-loop
 add-buf c = omega arith
 
--- src/main.rt:38:18
 slice-read-buf : tie.Need-slice-read-buf Inv-loop μ-loop
 slice-read-buf c = omega arith
 
--- src/main.rt:38:9
 slice-write-buf : tie.Need-slice-write-buf Inv-loop μ-loop
 slice-write-buf c = omega arith
 
--- src/main.rt:39:9
 add-i : tie.Need-add-i Inv-loop μ-loop
 add-i c = omega arith
 
--- src/main.rt:37:5
 loop-less : tie.Need-loop-less Inv-loop μ-loop
 loop-less c = omega arith
 
--- src/main.rt:37:5
 loop-again : tie.Need-loop-again Inv-loop μ-loop
 loop-again c = (omega arith, simp length-set (c .before .before .loop .inv .1), down _ _ _ _ (omega arith) (c .before .before .loop .inv .2))
 
--- src/main.rt:30:1
 same-length : tie.Need-same-length Inv-loop μ-loop
 same-length c = c .before .loop .inv .1
 
--- src/main.rt:30:1
 returns : tie.Need-returns Inv-loop μ-loop
 returns c =
     let e : c .before .loop .i ≡ c .before .before .args .to - c .before .before .args .from = omega arith in

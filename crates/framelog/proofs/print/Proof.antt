@@ -4,76 +4,52 @@ use Rattle.framelog.proofs.Down.{worked}
 use borrow.Author.Needs.{needs}
 use Rattle.framelog.proofs.print.Statement.{statement}
 use Rattle.framelog.proofs.print.Tie as tie
-use Rattle.framelog.proofs.print.Reads as reads
-use Rattle.framelog.proofs.print.Lts as lts
-use Rattle.framelog.proofs.is_ended.Reads as is-ended-reads
-use Rattle.framelog.proofs.is_waiting.Reads as is-waiting-reads
-use Rattle.framelog.proofs.stopped.Reads as stopped-reads
-use Rattle.framelog.proofs.work.Reads as work-reads
-use Rattle.io.proofs.write_all.Reads as write-all-reads
-use Rattle.os.proofs.fail.Reads as fail-reads
 
--- src/main.rt:109:9
 work-requires : tie.Need-work-requires
 work-requires c κs = search needs
 
--- src/main.rt:114:38
 slice-reshare-prefix-write-all : tie.Need-slice-reshare-prefix-write-all
 slice-reshare-prefix-write-all c = worked (c .before .before .before .before .before .before .before .before .before .before .args .ended) (c .before .before .before .before .before .before .before .before .before .before .args .log) (c .before .before .before .before .before .before .before .before .before .before .args .have) (now (c .before .before .before .before .before .before .before .before .before .before .args .input)) (c .before .before .before .before .before .before .before .before .before .before .pre) (c .before .before .before .before .before .work .ensures .0) .1 .0
 
--- src/main.rt:114:38
 slice-aggregate-write-all : tie.Need-slice-aggregate-write-all
 slice-aggregate-write-all c = worked (c .before .before .before .before .before .before .before .before .before .before .before .args .ended) (c .before .before .before .before .before .before .before .before .before .before .before .args .log) (c .before .before .before .before .before .before .before .before .before .before .before .args .have) (now (c .before .before .before .before .before .before .before .before .before .before .before .args .input)) (c .before .before .before .before .before .before .before .before .before .before .before .pre) (c .before .before .before .before .before .before .work .ensures .0) .1 .1
 
--- src/main.rt:114:9
 write-all-requires : tie.Need-write-all-requires
 write-all-requires c κs = search needs
 
--- src/main.rt:115:18
 slice-aggregate-fail : tie.Need-slice-aggregate-fail
 slice-aggregate-fail c = search needs
 
--- src/main.rt:115:9
 fail-requires : tie.Need-fail-requires
 fail-requires c κs = search needs
 
--- src/main.rt:116:9
 stopped-requires : tie.Need-stopped-requires
 stopped-requires c κs = search needs
 
--- src/main.rt:116:9
 same-length : tie.Need-same-length
 same-length c = search needs
 
--- src/main.rt:116:9
 same-length-2 : tie.Need-same-length-2
 same-length-2 c = search needs
 
--- src/main.rt:116:9
 returns : tie.Need-returns
 returns c = search needs
 
--- src/main.rt:120:15
 sub-t23 : tie.Need-sub-t23
 sub-t23 c = omega (arith, worked (c .before .before .before .before .before .before .before .before .before .before .before .before .before .args .ended) (c .before .before .before .before .before .before .before .before .before .before .before .before .before .args .log) (c .before .before .before .before .before .before .before .before .before .before .before .before .before .args .have) (now (c .before .before .before .before .before .before .before .before .before .before .before .before .before .args .input)) (c .before .before .before .before .before .before .before .before .before .before .before .before .before .pre) (c .before .before .before .before .before .before .before .before .work .ensures .0) .0)
 
--- src/main.rt:122:18
 is-waiting-requires : tie.Need-is-waiting-requires
 is-waiting-requires c κs = search needs
 
--- src/main.rt:123:17
 is-ended-requires : tie.Need-is-ended-requires
 is-ended-requires c κs = search needs
 
--- src/main.rt:105:1
 same-length-3 : tie.Need-same-length-3
 same-length-3 c = search needs
 
--- src/main.rt:105:1
 same-length-4 : tie.Need-same-length-4
 same-length-4 c = search needs
 
--- src/main.rt:105:1
 returns-2 : tie.Need-returns-2
 returns-2 c = search needs
 

@@ -3,98 +3,70 @@ use Rattle.framelog.proofs.Down.{bytes-in}
 use borrow.Author.Needs.{needs}
 use Rattle.framelog.proofs.turn.Statement.{statement}
 use Rattle.framelog.proofs.turn.Tie as tie
-use Rattle.framelog.proofs.turn.Reads as reads
-use Rattle.framelog.proofs.turn.Lts as lts
-use Rattle.framelog.proofs.print.Reads as print-reads
-use Rattle.framelog.proofs.read_more.Reads as read-more-reads
-use Rattle.framelog.proofs.stopped.Reads as stopped-reads
-use Rattle.os.proofs.fail.Reads as fail-reads
 
--- src/main.rt:134:15
 read-more-requires : tie.Need-read-more-requires
 read-more-requires c κs = search needs
 
--- src/main.rt:135:24
 enum-known-n : tie.Need-enum-known-n
 enum-known-n c = search needs
 
--- src/main.rt:135:41
 add-print : tie.Need-add-print
 add-print c = omega (arith, bytes-in (c .before .before .before .before .before .before .before .before .before .before .before .args .st .have) (c .before .n .given .0 .0) (c .before .before .before .before .before .read-more .result) (c .before .before .before .before .before .read-more .last .0) (c .before .before .before .before .before .read-more .ensures) (c .before .n .given .1))
 
--- src/main.rt:135:30
 print-requires : tie.Need-print-requires
 print-requires c κs = bytes-in (c .before .before .before .before .before .before .before .before .before .before .before .before .before .args .st .have) (c .before .before .before .n .given .0 .0) (c .before .before .before .before .before .before .before .read-more .result) (c .before .before .before .before .before .before .before .read-more .last .0) (c .before .before .before .before .before .before .before .read-more .ensures) (c .before .before .before .n .given .1)
 
--- src/main.rt:136:48
 enum-told : tie.Need-enum-told
 enum-told c = search needs
 
--- src/main.rt:136:25
 print-requires-2 : tie.Need-print-requires-2
 print-requires-2 c κs = search needs
 
--- src/main.rt:138:26
 enum-told-2 : tie.Need-enum-told-2
 enum-told-2 c = search needs
 
--- src/main.rt:138:26
 slice-aggregate-fail : tie.Need-slice-aggregate-fail
 slice-aggregate-fail c = search needs
 
--- src/main.rt:138:17
 fail-requires : tie.Need-fail-requires
 fail-requires c κs = search needs
 
--- src/main.rt:139:17
 stopped-requires : tie.Need-stopped-requires
 stopped-requires c κs = search needs
 
--- src/main.rt:143:9
 print-requires-3 : tie.Need-print-requires-3
 print-requires-3 c κs = search needs
 
--- src/main.rt:127:1
 same-length : tie.Need-same-length
 same-length c = search needs
 
--- src/main.rt:127:1
 same-length-2 : tie.Need-same-length-2
 same-length-2 c = search needs
 
--- src/main.rt:127:1
 returns : tie.Need-returns
 returns c = search needs
 
--- src/main.rt:127:1
 same-length-3 : tie.Need-same-length-3
 same-length-3 c = search needs
 
--- src/main.rt:127:1
 same-length-4 : tie.Need-same-length-4
 same-length-4 c = search needs
 
--- src/main.rt:127:1
 returns-2 : tie.Need-returns-2
 returns-2 c = search needs
 
--- src/main.rt:127:1
 same-length-5 : tie.Need-same-length-5
 same-length-5 c = search needs
 
--- src/main.rt:127:1
 returns-3 : tie.Need-returns-3
 returns-3 c = search needs
 
--- src/main.rt:127:1
 same-length-6 : tie.Need-same-length-6
 same-length-6 c = search needs
 
--- src/main.rt:127:1
 same-length-7 : tie.Need-same-length-7
 same-length-7 c = search needs
 
--- src/main.rt:127:1
 returns-4 : tie.Need-returns-4
 returns-4 c = search needs
 

@@ -2,72 +2,49 @@ use Rattle.log.proofs.Front as front
 use borrow.Author.Needs.{needs}
 use Rattle.log.proofs.decode.define.Statement.{statement}
 use Rattle.log.proofs.decode.define.Tie as tie
-use Rattle.log.proofs.decode.define.Reads as reads
-use Rattle.log.proofs.decode.define.Lts as lts
-use Rattle.conversion.proofs.f32_of_bits.Reads as f32-of-bits-reads
-use Rattle.log.proofs.decode.condition_of.Reads as condition-of-reads
-use Rattle.log.proofs.decode.is_bad.Reads as is-bad-reads
-use Rattle.log.proofs.decode.order_of.Reads as order-of-reads
-use Rattle.log.proofs.decode.u16_at.Reads as u16-at-reads
-use Rattle.log.proofs.decode.u32_at.Reads as u32-at-reads
 
--- src/decode.rt:142:17
 shared-slice-read-flags : tie.Need-shared-slice-read-flags
 shared-slice-read-flags c = search needs
 
--- src/decode.rt:143:9
 u16-at-requires : tie.Need-u16-at-requires
 u16-at-requires c κs = search needs
 
--- src/decode.rt:144:8
 is-bad-requires : tie.Need-is-bad-requires
 is-bad-requires c κs = search needs
 
--- src/decode.rt:145:9
 returns : tie.Need-returns
 returns c = front.bad _ _ _ (c .before .before .u16-at .ensures) (c .before .is-bad .ensures) (c .if1 .taken)
 
--- src/decode.rt:148:17
 u32-at-requires : tie.Need-u32-at-requires
 u32-at-requires c κs = search needs
 
--- src/decode.rt:150:20
 u16-at-requires-2 : tie.Need-u16-at-requires-2
 u16-at-requires-2 c κs = search needs
 
--- src/decode.rt:151:21
 shared-slice-read-t12 : tie.Need-shared-slice-read-t12
 shared-slice-read-t12 c = search needs
 
--- src/decode.rt:152:21
 order-of-requires : tie.Need-order-of-requires
 order-of-requires c κs = search needs
 
--- src/decode.rt:153:28
 u32-at-requires-2 : tie.Need-u32-at-requires-2
 u32-at-requires-2 c κs = search needs
 
--- src/decode.rt:153:16
 f32-of-bits-requires : tie.Need-f32-of-bits-requires
 f32-of-bits-requires c κs = search needs
 
--- src/decode.rt:154:29
 u32-at-requires-3 : tie.Need-u32-at-requires-3
 u32-at-requires-3 c κs = search needs
 
--- src/decode.rt:154:17
 f32-of-bits-requires-2 : tie.Need-f32-of-bits-requires-2
 f32-of-bits-requires-2 c κs = search needs
 
--- src/decode.rt:155:20
 u32-at-requires-4 : tie.Need-u32-at-requires-4
 u32-at-requires-4 c κs = search needs
 
--- src/decode.rt:158:20
 condition-of-requires : tie.Need-condition-of-requires
 condition-of-requires c κs = search needs
 
--- src/decode.rt:138:1
 returns-2 : tie.Need-returns-2
 returns-2 c = simp (c .condition-of .ensures, c .before .u32-at4 .ensures, c .before .before .f32-of-bits2 .ensures, c .before .before .before .u32-at3 .ensures, c .before .before .before .before .f32-of-bits .ensures, c .before .before .before .before .before .u32-at2 .ensures, c .before .before .before .before .before .before .order-of .ensures, c .before .before .before .before .before .before .before .before .u16-at2 .ensures, c .before .before .before .before .before .before .before .before .before .u32-at .ensures, c .before .before .before .before .before .before .before .before .before .before .before .before .u16-at .ensures) (front.good _ _ _ (c .before .before .before .before .before .before .before .before .before .before .before .before .u16-at .ensures) (c .before .before .before .before .before .before .before .before .before .before .before .is-bad .ensures) (c .before .before .before .before .before .before .before .before .before .before .if1 .left))
 

@@ -1,35 +1,26 @@
 use Rattle.log.specs.Records.{frameOf}
-use borrow.Author.Tests.{eq-eqb, ne-eqb, le-leb, lt-leb, le-ltb, lt-ltb}
+use borrow.Author.Tests.{le-leb, lt-leb, le-ltb, lt-ltb}
 use borrow.Author.Needs.{needs}
 use Rattle.log.proofs.decode.frame.Statement.{statement}
 use Rattle.log.proofs.decode.frame.Tie as tie
-use Rattle.log.proofs.decode.frame.Reads as reads
-use Rattle.log.proofs.decode.frame.Lts as lts
-use Rattle.log.proofs.decode.u32_at.Reads as u32-at-reads
 
--- src/decode.rt:174:17
 shared-slice-read-flags : tie.Need-shared-slice-read-flags
 shared-slice-read-flags c = search needs
 
--- src/decode.rt:175:18
 shared-slice-read-length : tie.Need-shared-slice-read-length
 shared-slice-read-length c = search needs
 
--- src/decode.rt:177:9
 returns : tie.Need-returns
 unfolding frameOf
 returns c = simp (le-leb _ _ (c .if1 .taken))
 
--- src/decode.rt:180:9
 returns-2 : tie.Need-returns-2
 unfolding frameOf
 returns-2 c = simp (lt-leb _ _ (c .before .if1 .left), lt-ltb _ _ (c .if2 .taken))
 
--- src/decode.rt:182:17
 u32-at-requires : tie.Need-u32-at-requires
 u32-at-requires c κs = search needs
 
--- src/decode.rt:170:1
 returns-3 : tie.Need-returns-3
 unfolding frameOf
 returns-3 c = simp (lt-leb _ _ (c .before .before .if1 .left), le-ltb _ _ (c .before .if2 .left), c .u32-at .ensures)

@@ -2,20 +2,15 @@ use Rattle.log.specs.Records.{badFlags}
 use borrow.Author.Tests.{eq-eqb, ne-eqb, le-leb, lt-leb}
 use Rattle.log.proofs.decode.is_bad.Statement.{statement}
 use Rattle.log.proofs.decode.is_bad.Tie as tie
-use Rattle.log.proofs.decode.is_bad.Reads as reads
-use Rattle.log.proofs.decode.is_bad.Lts as lts
 
--- src/decode.rt:112:9
 returns : tie.Need-returns
 unfolding badFlags
 returns c = simp (le-leb _ _ (c .if1 .taken))
 
--- src/decode.rt:115:9
 returns-2 : tie.Need-returns-2
 unfolding badFlags
 returns-2 c = simp (lt-leb _ _ (c .before .if1 .left), eq-eqb _ _ (c .if2 .taken))
 
--- src/decode.rt:108:1
 returns-3 : tie.Need-returns-3
 unfolding badFlags
 returns-3 c = simp (lt-leb _ _ (c .before .if1 .left), ne-eqb _ _ (c .if2 .left))

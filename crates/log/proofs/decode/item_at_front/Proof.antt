@@ -1,72 +1,51 @@
-use mathlib.Core.Path.{_≡_, _∙_, ap, sym, subst}
-use native.Mathlib.Omega.{arith}
-use borrow.Author.Tests.{eq-eqb, ne-eqb, lt-ltb, le-ltb}
+use mathlib.Core.Path.{_∙_, sym}
+use borrow.Author.Tests.{eq-eqb, ne-eqb}
 use lib.Seq.{length-take-le}
-use lib.ListN.{length, take}
-use Rattle.log.specs.Records.{itemOf, sizeOf}
+use Rattle.log.specs.Records.{itemOf}
 use Rattle.log.proofs.Front as front
 use borrow.Author.Needs.{needs}
 use Rattle.log.proofs.decode.item_at_front.Statement.{statement}
 use Rattle.log.proofs.decode.item_at_front.Tie as tie
-use Rattle.log.proofs.decode.item_at_front.Reads as reads
-use Rattle.log.proofs.decode.item_at_front.Lts as lts
-use Rattle.log.proofs.decode.record_of.Reads as record-of-reads
-use Rattle.log.proofs.decode.is_misplaced.Reads as is-misplaced-reads
-use Rattle.log.proofs.decode.mark_of.Reads as mark-of-reads
-use Rattle.log.proofs.decode.size_of.Reads as size-of-reads
 
--- src/decode.rt:205:9
 returns : tie.Need-returns
 unfolding itemOf
 returns c = simp (eq-eqb _ _ (c .if1 .taken))
 
--- src/decode.rt:208:9
 returns-2 : tie.Need-returns-2
 unfolding itemOf
 returns-2 c = simp (ne-eqb _ _ (c .before .if1 .left), eq-eqb _ _ (c .if2 .taken))
 
--- src/decode.rt:211:9
 returns-3 : tie.Need-returns-3
 unfolding itemOf
 returns-3 c = simp (ne-eqb _ _ (c .before .before .if1 .left), ne-eqb _ _ (c .before .if2 .left), eq-eqb _ _ (c .if3 .taken))
 
--- src/decode.rt:213:21
 shared-slice-read-mark-of : tie.Need-shared-slice-read-mark-of
 shared-slice-read-mark-of c = search needs
 
--- src/decode.rt:213:27
 shared-slice-read-mark-of-2 : tie.Need-shared-slice-read-mark-of-2
 shared-slice-read-mark-of-2 c = search needs
 
--- src/decode.rt:213:9
 mark-of-requires : tie.Need-mark-of-requires
 mark-of-requires c κs = search needs
 
--- src/decode.rt:214:9
 size-of-requires : tie.Need-size-of-requires
 size-of-requires c κs = search needs
 
--- src/decode.rt:216:9
 returns-4 : tie.Need-returns-4
 returns-4 c = front.cut _ _ (c .before .before .before .before .before .before .before .if1 .left) (c .before .before .before .before .before .before .if2 .left) (c .before .before .before .before .before .if3 .left) _ _ (c .before .before .mark-of .ensures) (c .before .size-of .ensures) (c .if4 .taken)
 
--- src/decode.rt:218:8
 is-misplaced-requires : tie.Need-is-misplaced-requires
 is-misplaced-requires c κs = search needs
 
--- src/decode.rt:219:9
 returns-5 : tie.Need-returns-5
 returns-5 c = front.misplaced-here _ _ (c .before .before .before .before .before .before .before .before .before .if1 .left) (c .before .before .before .before .before .before .before .before .if2 .left) (c .before .before .before .before .before .before .before .if3 .left) _ _ (c .before .before .before .before .mark-of .ensures) (c .before .before .before .size-of .ensures) _ (c .before .is-misplaced .ensures) (c .if5 .taken) (c .before .before .if4 .left)
 
--- src/decode.rt:221:10
 slice-aggregate-record-of : tie.Need-slice-aggregate-record-of
 slice-aggregate-record-of c = sym (length-take-le _ _ (c .before .before .before .if4 .left))
 
--- src/decode.rt:221:5
 record-of-requires : tie.Need-record-of-requires
 record-of-requires c κs = length-take-le _ _ (c .before .before .before .if4 .left) ∙ c .before .before .before .before .size-of .ensures
 
--- src/decode.rt:201:1
 returns-6 : tie.Need-returns-6
 returns-6 c = c .record-of .ensures ∙ front.whole _ _ (c .before .before .before .before .before .before .before .before .before .before .before .if1 .left) (c .before .before .before .before .before .before .before .before .before .before .if2 .left) (c .before .before .before .before .before .before .before .before .before .if3 .left) _ _ (c .before .before .before .before .before .before .mark-of .ensures) (c .before .before .before .before .before .size-of .ensures) _ (c .before .before .before .is-misplaced .ensures) (c .before .before .if5 .left) (c .before .before .before .before .if4 .left)
 

@@ -1,16 +1,12 @@
 use Rattle.log.specs.Records.{orderOf}
-use borrow.Author.Tests.{eq-eqb, ne-eqb, le-leb, lt-leb}
+use borrow.Author.Tests.{eq-eqb, ne-eqb}
 use Rattle.log.proofs.decode.order_of.Statement.{statement}
 use Rattle.log.proofs.decode.order_of.Tie as tie
-use Rattle.log.proofs.decode.order_of.Reads as reads
-use Rattle.log.proofs.decode.order_of.Lts as lts
 
--- src/decode.rt:133:9
 returns : tie.Need-returns
 unfolding orderOf
 returns c = simp (eq-eqb _ _ (c .if1 .taken))
 
--- src/decode.rt:129:1
 returns-2 : tie.Need-returns-2
 unfolding orderOf
 returns-2 c = simp (ne-eqb _ _ (c .if1 .left))

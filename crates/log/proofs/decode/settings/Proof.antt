@@ -2,28 +2,19 @@ use Rattle.log.specs.Records.{settingsOf}
 use borrow.Author.Needs.{needs}
 use Rattle.log.proofs.decode.settings.Statement.{statement}
 use Rattle.log.proofs.decode.settings.Tie as tie
-use Rattle.log.proofs.decode.settings.Reads as reads
-use Rattle.log.proofs.decode.settings.Lts as lts
-use Rattle.conversion.proofs.f32_of_bits.Reads as f32-of-bits-reads
-use Rattle.log.proofs.decode.u32_at.Reads as u32-at-reads
 
--- src/decode.rt:102:29
 u32-at-requires : tie.Need-u32-at-requires
 u32-at-requires c κs = search needs
 
--- src/decode.rt:102:9
 f32-of-bits-requires : tie.Need-f32-of-bits-requires
 f32-of-bits-requires c κs = search needs
 
--- src/decode.rt:103:33
 u32-at-requires-2 : tie.Need-u32-at-requires-2
 u32-at-requires-2 c κs = search needs
 
--- src/decode.rt:103:9
 f32-of-bits-requires-2 : tie.Need-f32-of-bits-requires-2
 f32-of-bits-requires-2 c κs = search needs
 
--- src/decode.rt:98:1
 returns : tie.Need-returns
 unfolding settingsOf
 returns c = simp (c .f32-of-bits2 .ensures, c .before .u32-at2 .ensures, c .before .before .f32-of-bits .ensures, c .before .before .before .u32-at .ensures)

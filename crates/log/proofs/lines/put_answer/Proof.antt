@@ -1,92 +1,66 @@
 use Rattle.log.specs.Lines.{line, answerLine, ascii}
 use Rattle.log.proofs.Texts.{named, then, dec-length}
-use mathlib.Core.Path.{_≡_, _∙_, ap, sym, refl}
+use mathlib.Core.Path.{_∙_, ap, sym}
 use native.Mathlib.Omega.{arith}
 use denote.Ref.{now}
 use borrow.Author.Needs.{needs}
 use Rattle.log.proofs.lines.put_answer.Statement.{statement}
 use Rattle.log.proofs.lines.put_answer.Tie as tie
-use Rattle.log.proofs.lines.put_answer.Reads as reads
-use Rattle.log.proofs.lines.put_answer.Lts as lts
-use Rattle.log.proofs.lines.put.Reads as put-reads
-use Rattle.log.proofs.lines.put_decimal.Reads as put-decimal-reads
-use Rattle.log.proofs.lines.put_line.Reads as put-line-reads
-use Rattle.log.proofs.lines.wide16.Reads as wide16-reads
-use Rattle.log.proofs.lines.wide8.Reads as wide8-reads
 
--- src/lines.rt:110:22
 enum-known-answer : tie.Need-enum-known-answer
 enum-known-answer c = search needs
 
--- src/lines.rt:110:57
 slice-aggregate-put-line : tie.Need-slice-aggregate-put-line
 slice-aggregate-put-line c = search needs
 
--- src/lines.rt:110:68
 wide16-requires : tie.Need-wide16-requires
 wide16-requires c κs = search needs
 
--- src/lines.rt:110:28
 put-line-requires : tie.Need-put-line-requires
 put-line-requires c κs = search needs
 
--- src/lines.rt:112:25
 enum-told : tie.Need-enum-told
 enum-told c = search needs
 
--- src/lines.rt:112:17
 put-requires : tie.Need-put-requires
 put-requires c κs = search needs
 
--- src/lines.rt:113:17
 put-decimal-requires : tie.Need-put-decimal-requires
 put-decimal-requires c κs = search needs
 
--- src/lines.rt:114:25
 slice-aggregate-put : tie.Need-slice-aggregate-put
 slice-aggregate-put c = search needs
 
--- src/lines.rt:114:13
 put-requires-2 : tie.Need-put-requires-2
 put-requires-2 c κs = omega (arith, dec-length 10 (c .before .before .before .before .before .before .before .before .before .before .before .before .before .before .args .n))
 
--- src/lines.rt:116:25
 enum-known-answer-2 : tie.Need-enum-known-answer-2
 enum-known-answer-2 c = search needs
 
--- src/lines.rt:116:60
 slice-aggregate-put-line-2 : tie.Need-slice-aggregate-put-line-2
 slice-aggregate-put-line-2 c = search needs
 
--- src/lines.rt:116:74
 wide8-requires : tie.Need-wide8-requires
 wide8-requires c κs = search needs
 
--- src/lines.rt:116:31
 put-line-requires-2 : tie.Need-put-line-requires-2
 put-line-requires-2 c κs = search needs
 
--- src/lines.rt:105:1
 same-length : tie.Need-same-length
 same-length c = search needs
 
--- src/lines.rt:105:1
 returns : tie.Need-returns
 returns c = named (ap (line (now (c .before .before .before .before .before .before .before .before .before .before .before .args .letter)) (c .before .before .before .before .before .before .before .before .before .before .before .args .n) (ascii " slot ")) (c .before .before .before .wide16 .ensures) ∙ sym (ap (answerLine (now (c .before .before .before .before .before .before .before .before .before .before .before .args .letter)) (c .before .before .before .before .before .before .before .before .before .before .before .args .n)) (c .before .before .before .before .before .before .before .answer .given .1))) (c .before .before .put-line .ensures)
 
--- src/lines.rt:105:1
 same-length-2 : tie.Need-same-length-2
 same-length-2 c = search needs
 
--- src/lines.rt:105:1
 returns-2 : tie.Need-returns-2
 returns-2 c = named (sym (ap (answerLine (now (c .before .before .before .before .before .before .before .before .before .before .before .before .before .before .before .before .before .args .letter)) (c .before .before .before .before .before .before .before .before .before .before .before .before .before .before .before .before .before .args .n)) (c .before .before .before .before .before .before .before .before .before .before .before .before .before .enum-told .given .1))) (then (then (c .before .before .before .before .before .before .before .before .before .before .before .put .ensures) (c .before .before .before .before .before .before .before .put-decimal .ensures)) (c .before .before .put2 .ensures))
 
--- src/lines.rt:105:1
 same-length-3 : tie.Need-same-length-3
 same-length-3 c = search needs
 
--- src/lines.rt:105:1
 returns-3 : tie.Need-returns-3
 returns-3 c = named (ap (line (now (c .before .before .before .before .before .before .before .before .before .before .before .args .letter)) (c .before .before .before .before .before .before .before .before .before .before .before .args .n) (ascii " refused ")) (c .before .before .before .wide8 .ensures) ∙ sym (ap (answerLine (now (c .before .before .before .before .before .before .before .before .before .before .before .args .letter)) (c .before .before .before .before .before .before .before .before .before .before .before .args .n)) (c .before .before .before .before .before .before .before .answer2 .given .1))) (c .before .before .put-line2 .ensures)
 

@@ -1,35 +1,25 @@
 use Rattle.log.specs.Lines.{line, ascii}
 use Rattle.log.proofs.Texts.{named}
-use mathlib.Core.Path.{_≡_, _∙_, ap, sym, refl}
+use mathlib.Core.Path.{ap}
 use borrow.Author.Needs.{needs}
 use Rattle.log.proofs.lines.put_end.Statement.{statement}
 use Rattle.log.proofs.lines.put_end.Tie as tie
-use Rattle.log.proofs.lines.put_end.Reads as reads
-use Rattle.log.proofs.lines.put_end.Lts as lts
-use Rattle.log.proofs.lines.put_line.Reads as put-line-reads
-use Rattle.log.proofs.lines.wide8.Reads as wide8-reads
 
--- src/lines.rt:125:23
 slice-aggregate-put-line : tie.Need-slice-aggregate-put-line
 slice-aggregate-put-line c = search needs
 
--- src/lines.rt:125:35
 slice-aggregate-put-line-2 : tie.Need-slice-aggregate-put-line-2
 slice-aggregate-put-line-2 c = search needs
 
--- src/lines.rt:125:41
 wide8-requires : tie.Need-wide8-requires
 wide8-requires c κs = search needs
 
--- src/lines.rt:125:5
 put-line-requires : tie.Need-put-line-requires
 put-line-requires c κs = search needs
 
--- src/lines.rt:121:1
 same-length : tie.Need-same-length
 same-length c = search needs
 
--- src/lines.rt:121:1
 returns : tie.Need-returns
 returns c = named (ap (line (ascii "end ") (c .before .before .before .before .before .before .before .before .args .n) (ascii " ")) (c .before .before .before .wide8 .ensures)) (c .before .before .put-line .ensures)
 

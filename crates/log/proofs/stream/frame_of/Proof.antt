@@ -3,42 +3,31 @@ use denote.Ref.{now}
 use borrow.Author.Needs.{needs}
 use Rattle.log.proofs.stream.frame_of.Statement.{statement}
 use Rattle.log.proofs.stream.frame_of.Tie as tie
-use Rattle.log.proofs.stream.frame_of.Reads as reads
-use Rattle.log.proofs.stream.frame_of.Lts as lts
 
--- src/stream.rt:86:17
 shared-slice-read-t7 : tie.Need-shared-slice-read-t7
 shared-slice-read-t7 c = search needs
 
--- src/stream.rt:86:23
 shared-slice-read-t9 : tie.Need-shared-slice-read-t9
 shared-slice-read-t9 c = search needs
 
--- src/stream.rt:86:29
 shared-slice-read-t11 : tie.Need-shared-slice-read-t11
 shared-slice-read-t11 c = search needs
 
--- src/stream.rt:86:36
 shared-slice-read-t13 : tie.Need-shared-slice-read-t13
 shared-slice-read-t13 c = search needs
 
--- src/stream.rt:86:43
 shared-slice-read-t15 : tie.Need-shared-slice-read-t15
 shared-slice-read-t15 c = search needs
 
--- src/stream.rt:86:50
 shared-slice-read-t17 : tie.Need-shared-slice-read-t17
 shared-slice-read-t17 c = search needs
 
--- src/stream.rt:86:57
 shared-slice-read-t19 : tie.Need-shared-slice-read-t19
 shared-slice-read-t19 c = search needs
 
--- src/stream.rt:86:64
 shared-slice-read-t21 : tie.Need-shared-slice-read-t21
 shared-slice-read-t21 c = search needs
 
--- src/stream.rt:82:1
 returns : tie.Need-returns
 returns c = framed (c .before .before .before .before .before .before .before .before .args .id) (c .before .before .before .before .before .before .before .before .args .is-extended) (c .before .before .before .before .before .before .before .before .args .len) (now (c .before .before .before .before .before .before .before .before .args .s)) (c .before .before .before .before .before .before .before .before .pre)
 

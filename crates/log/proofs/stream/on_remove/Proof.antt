@@ -4,41 +4,29 @@ use Rattle.log.specs.Output.{goStep}
 use Rattle.log.specs.Lines.{answerLine, ascii}
 use Prim.Native.Nat.{_+_}
 use Rattle.table.specs.declared.Defined.{Defined}
-use mathlib.Core.Path.{_≡_, _∙_, ap, sym, refl}
+use mathlib.Core.Path.{ap}
 use borrow.Author.Needs.{needs}
 use Rattle.log.proofs.stream.on_remove.Statement.{statement}
 use Rattle.log.proofs.stream.on_remove.Tie as tie
-use Rattle.log.proofs.stream.on_remove.Reads as reads
-use Rattle.log.proofs.stream.on_remove.Lts as lts
-use Rattle.log.proofs.lines.put_answer.Reads as put-answer-reads
-use Rattle.log.proofs.stream.sound.Reads as sound-reads
-use Rattle.table.proofs.SignalIdsEngine.remove_signal.Reads as remove-signal-reads
 
--- src/stream.rt:168:9
 remove-signal-requires : tie.Need-remove-signal-requires
 remove-signal-requires c κs = search needs
 
--- src/stream.rt:171:35
 slice-aggregate-put-answer : tie.Need-slice-aggregate-put-answer
 slice-aggregate-put-answer c = search needs
 
--- src/stream.rt:171:42
 add-put-answer : tie.Need-add-put-answer
 add-put-answer c = search needs
 
--- src/stream.rt:171:9
 put-answer-requires : tie.Need-put-answer-requires
 put-answer-requires c κs = search needs
 
--- src/stream.rt:172:5
 sound-requires : tie.Need-sound-requires
 sound-requires c κs = search needs
 
--- src/stream.rt:162:1
 same-length : tie.Need-same-length
 same-length c = search needs
 
--- src/stream.rt:162:1
 returns : tie.Need-returns
 returns c = does (ap (λ (z : Defined). goStep (c .before .before .before .before .before .before .before .before .before .before .args .log) 4 (answerLine (ascii "R ") (c .before .before .before .before .before .before .before .before .before .before .args .log .count + 1) (z .answer)) (z .engine)) (by-remove _ _ (c .before .before .before .before .before .before .before .remove-signal .ensures))) (sounds (c .before .before .before .before .before .before .before .before .before .before .args .log) (c .sound .ensures) (c .before .before .before .put-answer .ensures))
 

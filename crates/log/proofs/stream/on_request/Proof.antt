@@ -1,60 +1,43 @@
 use Rattle.log.proofs.Steps.{does}
 use Rattle.log.specs.Output.{requestStep}
-use mathlib.Core.Path.{_≡_, _∙_, ap, sym, refl}
+use mathlib.Core.Path.{ap, sym}
 use borrow.Author.Needs.{needs}
 use Rattle.log.proofs.stream.on_request.Statement.{statement}
 use Rattle.log.proofs.stream.on_request.Tie as tie
-use Rattle.log.proofs.stream.on_request.Reads as reads
-use Rattle.log.proofs.stream.on_request.Lts as lts
-use Rattle.log.proofs.stream.on_define.Reads as on-define-reads
-use Rattle.log.proofs.stream.on_remove.Reads as on-remove-reads
-use Rattle.log.proofs.stream.on_settings.Reads as on-settings-reads
 
--- src/stream.rt:180:27
 enum-known-q : tie.Need-enum-known-q
 enum-known-q c = search needs
 
--- src/stream.rt:180:48
 on-settings-requires : tie.Need-on-settings-requires
 on-settings-requires c κs = search needs
 
--- src/stream.rt:181:25
 enum-known-q-2 : tie.Need-enum-known-q-2
 enum-known-q-2 c = search needs
 
--- src/stream.rt:181:31
 on-define-requires : tie.Need-on-define-requires
 on-define-requires c κs = search needs
 
--- src/stream.rt:182:25
 enum-known-q-3 : tie.Need-enum-known-q-3
 enum-known-q-3 c = search needs
 
--- src/stream.rt:182:34
 on-remove-requires : tie.Need-on-remove-requires
 on-remove-requires c κs = search needs
 
--- src/stream.rt:175:1
 same-length : tie.Need-same-length
 same-length c = search needs
 
--- src/stream.rt:175:1
 returns : tie.Need-returns
 returns c = does (ap (requestStep (c .before .before .before .before .before .before .before .before .args .log)) (sym (c .before .before .before .before .before .q .given .1))) (c .before .before .on-settings .ensures)
 
--- src/stream.rt:175:1
 same-length-2 : tie.Need-same-length-2
 same-length-2 c = search needs
 
--- src/stream.rt:175:1
 returns-2 : tie.Need-returns-2
 returns-2 c = does (ap (requestStep (c .before .before .before .before .before .before .before .before .args .log)) (sym (c .before .before .before .before .before .q2 .given .1))) (c .before .before .on-define .ensures)
 
--- src/stream.rt:175:1
 same-length-3 : tie.Need-same-length-3
 same-length-3 c = search needs
 
--- src/stream.rt:175:1
 returns-3 : tie.Need-returns-3
 returns-3 c = does (ap (requestStep (c .before .before .before .before .before .before .before .before .args .log)) (sym (c .before .before .before .before .before .q3 .given .1))) (c .before .before .on-remove .ensures)
 

@@ -2,28 +2,20 @@ use Rattle.log.proofs.Steps.{does}
 use Rattle.log.proofs.Below.{by-new}
 use Rattle.log.specs.Output.{settledStep}
 use Rattle.table.specs.declared.Defined.{Defined}
-use mathlib.Core.Path.{_≡_, _∙_, ap, sym, refl}
+use mathlib.Core.Path.{ap}
 use borrow.Author.Needs.{needs}
 use Rattle.log.proofs.stream.on_settings.Statement.{statement}
 use Rattle.log.proofs.stream.on_settings.Tie as tie
-use Rattle.log.proofs.stream.on_settings.Reads as reads
-use Rattle.log.proofs.stream.on_settings.Lts as lts
-use Rattle.log.proofs.stream.on_settled.Reads as on-settled-reads
-use Rattle.table.proofs.SignalIdsEngine.new.Reads as new-reads
 
--- src/stream.rt:143:9
 new-requires : tie.Need-new-requires
 new-requires c κs = search needs
 
--- src/stream.rt:146:5
 on-settled-requires : tie.Need-on-settled-requires
 on-settled-requires c κs = search needs
 
--- src/stream.rt:139:1
 same-length : tie.Need-same-length
 same-length c = search needs
 
--- src/stream.rt:139:1
 returns : tie.Need-returns
 returns c = does (ap (λ (z : Defined). settledStep (c .before .before .before .before .before .before .before .args .log) (z .engine) (z .answer)) (by-new _ _ (c .before .before .before .before .before .new .ensures))) (c .before .before .on-settled .ensures)
 

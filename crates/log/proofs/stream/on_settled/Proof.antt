@@ -1,52 +1,38 @@
 use Rattle.log.proofs.Steps.{does, sounds}
 use Rattle.log.proofs.Texts.{nothing}
 use Rattle.log.specs.Output.{settledStep}
-use mathlib.Core.Path.{_≡_, _∙_, ap, sym, refl}
+use mathlib.Core.Path.{ap, sym}
 use borrow.Author.Needs.{needs}
 use Rattle.log.proofs.stream.on_settled.Statement.{statement}
 use Rattle.log.proofs.stream.on_settled.Tie as tie
-use Rattle.log.proofs.stream.on_settled.Reads as reads
-use Rattle.log.proofs.stream.on_settled.Lts as lts
-use Rattle.log.proofs.stream.on_stop.Reads as on-stop-reads
-use Rattle.log.proofs.stream.sound.Reads as sound-reads
 
--- src/stream.rt:133:28
 enum-told : tie.Need-enum-told
 enum-told c = search needs
 
--- src/stream.rt:133:28
 sound-requires : tie.Need-sound-requires
 sound-requires c κs = search needs
 
--- src/stream.rt:134:25
 enum-told-2 : tie.Need-enum-told-2
 enum-told-2 c = search needs
 
--- src/stream.rt:134:25
 sound-requires-2 : tie.Need-sound-requires-2
 sound-requires-2 c κs = search needs
 
--- src/stream.rt:135:25
 enum-known-answer : tie.Need-enum-known-answer
 enum-known-answer c = search needs
 
--- src/stream.rt:135:31
 on-stop-requires : tie.Need-on-stop-requires
 on-stop-requires c κs = search needs
 
--- src/stream.rt:128:1
 returns : tie.Need-returns
 returns c = does (ap (settledStep (c .before .before .before .before .args .log) (c .before .before .before .before .args .engine)) (sym (c .before .enum-told .given .1))) (sounds (c .before .before .before .before .args .log) (c .sound .ensures) (nothing _ _))
 
--- src/stream.rt:128:1
 returns-2 : tie.Need-returns-2
 returns-2 c = does (ap (settledStep (c .before .before .before .before .args .log) (c .before .before .before .before .args .engine)) (sym (c .before .enum-told2 .given .1))) (sounds (c .before .before .before .before .args .log) (c .sound2 .ensures) (nothing _ _))
 
--- src/stream.rt:128:1
 same-length : tie.Need-same-length
 same-length c = search needs
 
--- src/stream.rt:128:1
 returns-3 : tie.Need-returns-3
 returns-3 c = does (ap (settledStep (c .before .before .before .before .before .before .before .before .args .log) (c .before .before .before .before .before .before .before .before .args .engine)) (sym (c .before .before .before .before .before .answer .given .1))) (c .before .before .on-stop .ensures)
 

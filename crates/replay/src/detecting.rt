@@ -20,20 +20,27 @@ pub struct Kept {
     pub at: usize,
 }
 
+// The detector then, and the line's end.
+fn after(d: EwmaDetector, out: &mut [u8], at: usize) -> Kept {
+    let state = put_detector(out, at, d);
+    let end = put_byte(out, state, b'\n');
+    Kept {
+        detector: d,
+        made: true,
+        at: end,
+    }
+}
+
 fn made_as(made: Made, letter: u8, out: &mut [u8], at: usize) -> Kept {
     let to = put_byte(out, at, letter);
     match made {
         Made::Detector(d) => {
             let ok = put_text(out, to, b" ok");
-            let end = put_detector(out, ok, d);
-            Kept {
-                detector: d,
-                made: true,
-                at: end,
-            }
+            after(d, out, ok)
         }
         Made::Refused => {
-            let end = put_refused(out, to, 7);
+            let refused = put_refused(out, to, 7);
+            let end = put_byte(out, refused, b'\n');
             Kept {
                 detector: EwmaDetector::idle(),
                 made: false,
@@ -44,7 +51,7 @@ fn made_as(made: Made, letter: u8, out: &mut [u8], at: usize) -> Kept {
 }
 
 // `a`: a detector with the usual freeze and warm-up.
-pub fn new(s: &[u8], out: &mut [u8], at: usize) -> Kept {
+fn new(s: &[u8], out: &mut [u8], at: usize) -> Kept {
     let alpha = number(s, 2);
     let threshold = number(s, alpha.next);
     made_as(
@@ -56,7 +63,7 @@ pub fn new(s: &[u8], out: &mut [u8], at: usize) -> Kept {
 }
 
 // `o`: a detector with its own freeze and warm-up.
-pub fn with_options(s: &[u8], out: &mut [u8], at: usize) -> Kept {
+fn with_options(s: &[u8], out: &mut [u8], at: usize) -> Kept {
     let alpha = number(s, 2);
     let threshold = number(s, alpha.next);
     let freeze = number(s, threshold.next);
@@ -74,15 +81,6 @@ pub fn with_options(s: &[u8], out: &mut [u8], at: usize) -> Kept {
     )
 }
 
-fn after(d: EwmaDetector, out: &mut [u8], at: usize) -> Kept {
-    let end = put_detector(out, at, d);
-    Kept {
-        detector: d,
-        made: true,
-        at: end,
-    }
-}
-
 // The Rust's answer: no score for what was ignored and for the first sample, and 0 while warming.
 fn put_score(out: &mut [u8], at: usize, v: Verdict) -> usize {
     match v {
@@ -98,23 +96,23 @@ fn put_score(out: &mut [u8], at: usize, v: Verdict) -> usize {
 
 fn put_case(out: &mut [u8], at: usize, v: Verdict) -> usize {
     match v {
-        Verdict::Ignored => put_text(out, at, b"\nv ignored"),
-        Verdict::First => put_text(out, at, b"\nv first"),
-        Verdict::Warming => put_text(out, at, b"\nv warming"),
-        Verdict::Scored(_) => put_text(out, at, b"\nv scored"),
+        Verdict::Ignored => put_text(out, at, b"v ignored\n"),
+        Verdict::First => put_text(out, at, b"v first\n"),
+        Verdict::Warming => put_text(out, at, b"v warming\n"),
+        Verdict::Scored(_) => put_text(out, at, b"v scored\n"),
     }
 }
 
 // `u`: one sample.
-pub fn update(d: EwmaDetector, s: &[u8], out: &mut [u8], at: usize) -> Kept {
+fn update(d: EwmaDetector, s: &[u8], out: &mut [u8], at: usize) -> Kept {
     let value = number(s, 2);
     let u = d.update(float(value.value));
     let next = u.detector;
     let verdict = u.verdict;
     let letter = put_byte(out, at, b'u');
     let to = put_score(out, letter, verdict);
-    let state = put_detector(out, to, next);
-    let end = put_case(out, state, verdict);
+    let done = after(next, out, to);
+    let end = put_case(out, done.at, verdict);
     Kept {
         detector: next,
         made: true,
@@ -123,7 +121,7 @@ pub fn update(d: EwmaDetector, s: &[u8], out: &mut [u8], at: usize) -> Kept {
 }
 
 // `z`: another freeze duration.
-pub fn set_freeze_duration(d: EwmaDetector, s: &[u8], out: &mut [u8], at: usize) -> Kept {
+fn set_freeze_duration(d: EwmaDetector, s: &[u8], out: &mut [u8], at: usize) -> Kept {
     let duration = number(s, 2);
     let to = put_byte(out, at, b'z');
     match d.set_freeze_duration(low32(duration.value)) {
@@ -139,9 +137,49 @@ pub fn set_freeze_duration(d: EwmaDetector, s: &[u8], out: &mut [u8], at: usize)
 }
 
 // `c`: a new baseline.
-pub fn recalibrate(d: EwmaDetector, s: &[u8], out: &mut [u8], at: usize) -> Kept {
+fn recalibrate(d: EwmaDetector, s: &[u8], out: &mut [u8], at: usize) -> Kept {
     let baseline = number(s, 2);
     let to = put_text(out, at, b"c ok");
     let next = d.recalibrate(float(baseline.value));
     after(next, out, to)
+}
+
+pub fn is_call(letter: u8) -> bool {
+    match letter {
+        b'a' | b'o' | b'u' | b'z' | b'c' => true,
+        _ => false,
+    }
+}
+
+fn on_made(d: EwmaDetector, letter: u8, s: &[u8], out: &mut [u8], at: usize) -> Kept {
+    match letter {
+        b'u' => update(d, s, out, at),
+        b'z' => set_freeze_duration(d, s, out, at),
+        _ => recalibrate(d, s, out, at),
+    }
+}
+
+// The answer to a call. One on a detector that is not there is left out.
+pub fn answered(
+    d: EwmaDetector,
+    made: bool,
+    letter: u8,
+    s: &[u8],
+    out: &mut [u8],
+    at: usize,
+) -> Kept {
+    if letter == b'a' {
+        return new(s, out, at);
+    }
+    if letter == b'o' {
+        return with_options(s, out, at);
+    }
+    if made {
+        return on_made(d, letter, s, out, at);
+    }
+    Kept {
+        detector: d,
+        made,
+        at,
+    }
 }

@@ -1,4 +1,6 @@
 // Calls on the engine that the script keeps.
+use crate::framing::frame;
+use crate::framing::raw_frame;
 use crate::script::definition;
 use crate::script::float;
 use crate::script::low16;
@@ -10,13 +12,16 @@ use crate::show::put_field;
 use crate::show::put_refused;
 use crate::show::put_text;
 use conversion::SignalDefinition;
+use detector::EwmaDetector;
 use table::Answer;
 use table::Defined;
+use table::Signal;
 use table::SignalIdsEngine;
 
-// The engine, and the place behind what was written.
+// The engine, if there is one, and the place behind what was written.
 pub struct Told {
     pub engine: SignalIdsEngine,
+    pub made: bool,
     pub at: usize,
 }
 
@@ -35,12 +40,17 @@ fn told_as(done: Defined, letter: u8, out: &mut [u8], at: usize) -> Told {
     let engine = done.engine;
     let answer = done.answer;
     let to = put_byte(out, at, letter);
-    let end = put_answer(out, to, answer);
-    Told { engine, at: end }
+    let told = put_answer(out, to, answer);
+    let end = put_byte(out, told, b'\n');
+    Told {
+        engine,
+        made: true,
+        at: end,
+    }
 }
 
 // Whether a call was accepted.
-pub fn accepted(answer: Answer) -> bool {
+fn accepted(answer: Answer) -> bool {
     match answer {
         Answer::Slot(_) => true,
         Answer::Done => true,
@@ -48,19 +58,19 @@ pub fn accepted(answer: Answer) -> bool {
     }
 }
 
-// `e`: a fresh engine.
-pub fn new(s: &[u8]) -> Defined {
+// `e`: a fresh engine, or none where it is refused.
+fn new(s: &[u8], out: &mut [u8], at: usize) -> Told {
     let alpha = number(s, 2);
     let threshold = number(s, alpha.next);
-    SignalIdsEngine::new(float(alpha.value), float(threshold.value))
-}
-
-pub fn told_new(done: Defined, out: &mut [u8], at: usize) -> Told {
-    told_as(done, b'e', out, at)
+    let done = SignalIdsEngine::new(float(alpha.value), float(threshold.value));
+    let answer = done.answer;
+    let mut told = told_as(done, b'e', out, at);
+    told.made = accepted(answer);
+    told
 }
 
 // `d`: one definition.
-pub fn define(e: SignalIdsEngine, s: &[u8], out: &mut [u8], at: usize) -> Told {
+fn define(e: SignalIdsEngine, s: &[u8], out: &mut [u8], at: usize) -> Told {
     let d = definition(s, 2);
     let def = d.definition;
     told_as(e.define_signal(def), b'd', out, at)
@@ -91,7 +101,7 @@ fn definitions(s: &[u8], at: usize, n: u64) -> [SignalDefinition; 64] {
 }
 
 // `b`: a batch.
-pub fn batch(e: SignalIdsEngine, s: &[u8], out: &mut [u8], at: usize) -> Told {
+fn batch(e: SignalIdsEngine, s: &[u8], out: &mut [u8], at: usize) -> Told {
     let count = number(s, 2);
     let defs = definitions(s, count.next, count.value);
     told_as(
@@ -103,7 +113,7 @@ pub fn batch(e: SignalIdsEngine, s: &[u8], out: &mut [u8], at: usize) -> Told {
 }
 
 // `m`: a removal.
-pub fn remove(e: SignalIdsEngine, s: &[u8], out: &mut [u8], at: usize) -> Told {
+fn remove(e: SignalIdsEngine, s: &[u8], out: &mut [u8], at: usize) -> Told {
     let slot = number(s, 2);
     told_as(e.remove_signal(low16(slot.value)), b'm', out, at)
 }
@@ -123,7 +133,7 @@ fn pass(e: SignalIdsEngine) -> SignalIdsEngine {
 }
 
 // `y`: that many times, to bring the next slot up.
-pub fn passes(e: SignalIdsEngine, s: &[u8], out: &mut [u8], at: usize) -> Told {
+fn passes(e: SignalIdsEngine, s: &[u8], out: &mut [u8], at: usize) -> Told {
     let times = number(s, 2);
     let mut left = times.value;
     let mut engine = e;
@@ -132,34 +142,123 @@ pub fn passes(e: SignalIdsEngine, s: &[u8], out: &mut [u8], at: usize) -> Told {
         left -= 1;
     }
     let to = put_byte(out, at, b'y');
-    let end = put_field(out, to, engine.next_slot() as u64, 4);
-    Told { engine, at: end }
+    let slot = put_field(out, to, engine.next_slot() as u64, 4);
+    let end = put_byte(out, slot, b'\n');
+    Told {
+        engine,
+        made: true,
+        at: end,
+    }
 }
 
-// One row of the table.
-fn put_row(out: &mut [u8], at: usize, e: SignalIdsEngine, i: usize) -> usize {
-    if 64 <= i {
-        return at;
-    }
-    let signal = e.signals[i];
-    let detector = e.detectors[i];
+// One row of the table, on a line of its own.
+fn put_row(out: &mut [u8], at: usize, signal: Signal, detector: EwmaDetector) -> usize {
     let def = signal.definition;
-    let line = put_text(out, at, b"\ns");
-    let slot = put_field(out, line, signal.slot as u64, 4);
+    let letter = put_byte(out, at, b's');
+    let slot = put_field(out, letter, signal.slot as u64, 4);
     let to = put_definition(out, slot, def);
-    put_detector(out, to, detector)
+    let end = put_detector(out, to, detector);
+    put_byte(out, end, b'\n')
+}
+
+// The count and the next slot.
+fn put_counts(out: &mut [u8], at: usize, n: usize, next: u16) -> usize {
+    let letter = put_byte(out, at, b's');
+    let count = put_field(out, letter, n as u64, 2);
+    let slot = put_field(out, count, next as u64, 4);
+    put_byte(out, slot, b'\n')
 }
 
 // `s`: the whole table.
-pub fn show(e: SignalIdsEngine, out: &mut [u8], at: usize) -> usize {
+fn show(e: SignalIdsEngine, out: &mut [u8], at: usize) -> usize {
     let n = e.signal_count();
-    let letter = put_byte(out, at, b's');
-    let count = put_field(out, letter, n as u64, 2);
-    let mut to = put_field(out, count, e.next_slot() as u64, 4);
+    let mut to = put_counts(out, at, n, e.next_slot());
     let mut i = 0usize;
-    while i < n {
-        to = put_row(out, to, e, i);
+    while i < 64 {
+        if n <= i {
+            return to;
+        }
+        let signal = e.signals[i];
+        let detector = e.detectors[i];
+        to = put_row(out, to, signal, detector);
         i += 1;
     }
     to
+}
+
+pub fn is_call(letter: u8) -> bool {
+    match letter {
+        b'e' | b'd' | b'b' | b'm' | b'y' | b'f' | b'g' | b's' => true,
+        _ => false,
+    }
+}
+
+// A call that shows the table or moves detectors.
+fn on_rows(
+    e: SignalIdsEngine,
+    letter: u8,
+    s: &[u8],
+    data: &mut [u8],
+    out: &mut [u8],
+    at: usize,
+) -> Told {
+    if letter == b'f' {
+        return frame(e, s, data, out, at);
+    }
+    if letter == b'g' {
+        return raw_frame(e, s, data, out, at);
+    }
+    let end = show(e, out, at);
+    Told {
+        engine: e,
+        made: true,
+        at: end,
+    }
+}
+
+// A call that changes the table.
+fn on_table(e: SignalIdsEngine, letter: u8, s: &[u8], out: &mut [u8], at: usize) -> Told {
+    if letter == b'd' {
+        return define(e, s, out, at);
+    }
+    if letter == b'b' {
+        return batch(e, s, out, at);
+    }
+    if letter == b'm' {
+        return remove(e, s, out, at);
+    }
+    passes(e, s, out, at)
+}
+
+fn is_on_rows(letter: u8) -> bool {
+    match letter {
+        b'f' | b'g' | b's' => true,
+        _ => false,
+    }
+}
+
+// The answer to a call. One on an engine that is not there is left out.
+pub fn answered(
+    e: SignalIdsEngine,
+    made: bool,
+    letter: u8,
+    s: &[u8],
+    data: &mut [u8],
+    out: &mut [u8],
+    at: usize,
+) -> Told {
+    if letter == b'e' {
+        return new(s, out, at);
+    }
+    if !made {
+        return Told {
+            engine: e,
+            made,
+            at,
+        };
+    }
+    if is_on_rows(letter) {
+        return on_rows(e, letter, s, data, out, at);
+    }
+    on_table(e, letter, s, out, at)
 }

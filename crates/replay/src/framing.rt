@@ -73,13 +73,13 @@ fn put_reports(out: &mut [u8], at: usize, r: SignalIdsResult) -> usize {
     let mut i = 0usize;
     while i < 64 {
         if r.report_count <= i {
-            return to;
+            return put_byte(out, to, b'\n');
         }
         let report = r.reports[i];
         to = put_report(out, to, report);
         i += 1;
     }
-    to
+    put_byte(out, to, b'\n')
 }
 
 fn answered(done: Processed, letter: u8, out: &mut [u8], at: usize) -> Told {
@@ -88,7 +88,11 @@ fn answered(done: Processed, letter: u8, out: &mut [u8], at: usize) -> Told {
     let start = put_byte(out, at, letter);
     let listed = put_anomalies(out, start, result);
     let end = put_reports(out, listed, result);
-    Told { engine, at: end }
+    Told {
+        engine,
+        made: true,
+        at: end,
+    }
 }
 
 // The first eight bytes, 0 where there are fewer.

@@ -10,12 +10,9 @@ mod show;
 ghost use Prim.Native.Nat.{_+_, _≤_};
 ghost use lib.ListN.{length};
 ghost use Rattle.io.specs.Counts.{Counts};
-use detecting::Kept;
 use detector::EwmaDetector;
-use engine::Told;
 use libc::STDIN_FILENO;
 use libc::STDOUT_FILENO;
-use show::put_byte;
 use table::SignalIdsEngine;
 
 // What the calls of a script act on, and how much of the output buffer is in use.
@@ -27,100 +24,38 @@ struct Machine {
     at: usize,
 }
 
-// The answer's line ends.
-fn ended(m: Machine, at: usize, out: &mut [u8]) -> Machine {
-    let mut next = m;
-    next.at = put_byte(out, at, b'\n');
-    next
-}
-
-fn with_detector(m: Machine, k: Kept, out: &mut [u8]) -> Machine {
+fn on_detector(m: Machine, letter: u8, s: &[u8], out: &mut [u8]) -> Machine {
+    let d = m.detector;
+    let k = detecting::answered(d, m.has_detector, letter, s, out, m.at);
     let detector = k.detector;
     let mut next = m;
     next.detector = detector;
     next.has_detector = k.made;
-    ended(next, k.at, out)
+    next.at = k.at;
+    next
 }
 
-fn with_engine(m: Machine, t: Told, out: &mut [u8]) -> Machine {
+fn on_engine(m: Machine, letter: u8, s: &[u8], data: &mut [u8], out: &mut [u8]) -> Machine {
+    let e = m.engine;
+    let t = engine::answered(e, m.has_engine, letter, s, data, out, m.at);
     let engine = t.engine;
     let mut next = m;
     next.engine = engine;
-    ended(next, t.at, out)
-}
-
-// A fresh engine, or none where it was refused.
-fn fresh_engine(m: Machine, s: &[u8], out: &mut [u8]) -> Machine {
-    let done = engine::new(s);
-    let answer = done.answer;
-    let mut next = m;
-    next.has_engine = engine::accepted(answer);
-    let told = engine::told_new(done, out, m.at);
-    with_engine(next, told, out)
-}
-
-fn on_detector(m: Machine, letter: u8, s: &[u8], out: &mut [u8]) -> Machine {
-    let d = m.detector;
-    match letter {
-        b'u' => with_detector(m, detecting::update(d, s, out, m.at), out),
-        b'z' => with_detector(m, detecting::set_freeze_duration(d, s, out, m.at), out),
-        _ => with_detector(m, detecting::recalibrate(d, s, out, m.at), out),
-    }
-}
-
-fn on_engine(m: Machine, letter: u8, s: &[u8], out: &mut [u8]) -> Machine {
-    let e = m.engine;
-    match letter {
-        b'd' => with_engine(m, engine::define(e, s, out, m.at), out),
-        b'b' => with_engine(m, engine::batch(e, s, out, m.at), out),
-        b'm' => with_engine(m, engine::remove(e, s, out, m.at), out),
-        b'y' => with_engine(m, engine::passes(e, s, out, m.at), out),
-        _ => ended(m, engine::show(e, out, m.at), out),
-    }
-}
-
-fn on_frame(m: Machine, letter: u8, s: &[u8], data: &mut [u8], out: &mut [u8]) -> Machine {
-    let e = m.engine;
-    match letter {
-        b'f' => with_engine(m, framing::frame(e, s, data, out, m.at), out),
-        _ => with_engine(m, framing::raw_frame(e, s, data, out, m.at), out),
-    }
+    next.has_engine = t.made;
+    next.at = t.at;
+    next
 }
 
 fn answered(m: Machine, letter: u8, s: &[u8], data: &mut [u8], out: &mut [u8]) -> Machine {
-    match letter {
-        b'r' => ended(m, plain::raw(s, data, out, m.at), out),
-        b'w' => ended(m, plain::write(s, data, out, m.at), out),
-        b'x' => ended(m, plain::signal(s, data, out, m.at), out),
-        b'n' => ended(m, plain::unsigned(s, out, m.at), out),
-        b'i' => ended(m, plain::signed(s, out, m.at), out),
-        b'q' => ended(m, plain::root(s, out, m.at), out),
-        b'a' => with_detector(m, detecting::new(s, out, m.at), out),
-        b'o' => with_detector(m, detecting::with_options(s, out, m.at), out),
-        b'e' => fresh_engine(m, s, out),
-        b'u' | b'z' | b'c' => {
-            if m.has_detector {
-                on_detector(m, letter, s, out)
-            } else {
-                m
-            }
-        }
-        b'f' | b'g' => {
-            if m.has_engine {
-                on_frame(m, letter, s, data, out)
-            } else {
-                m
-            }
-        }
-        b'd' | b'b' | b'm' | b'y' | b's' => {
-            if m.has_engine {
-                on_engine(m, letter, s, out)
-            } else {
-                m
-            }
-        }
-        _ => m,
+    if engine::is_call(letter) {
+        return on_engine(m, letter, s, data, out);
     }
+    if detecting::is_call(letter) {
+        return on_detector(m, letter, s, out);
+    }
+    let mut next = m;
+    next.at = plain::answered(letter, s, data, out, m.at);
+    next
 }
 
 // The first bytes of the buffer go out.

@@ -23,7 +23,7 @@ use conversion::nearest_u64;
 use detector::sqrt_approx;
 
 // `r`: the raw number of a signal.
-pub fn raw(s: &[u8], data: &mut [u8], out: &mut [u8], at: usize) -> usize {
+fn raw(s: &[u8], data: &mut [u8], out: &mut [u8], at: usize) -> usize {
     let byte_order = number(s, 2);
     let start = number(s, byte_order.next);
     let length = number(s, start.next);
@@ -36,8 +36,9 @@ pub fn raw(s: &[u8], data: &mut [u8], out: &mut [u8], at: usize) -> usize {
         low16(start.value),
         low8(length.value),
     );
-    let to = put_byte(out, at, b'r');
-    put_raw(out, to, answer)
+    let letter = put_byte(out, at, b'r');
+    let to = put_raw(out, letter, answer);
+    put_byte(out, to, b'\n')
 }
 
 fn written_number(w: Written) -> u64 {
@@ -49,7 +50,7 @@ fn written_number(w: Written) -> u64 {
 }
 
 // `w`: a raw number written, and the bytes then.
-pub fn write(s: &[u8], data: &mut [u8], out: &mut [u8], at: usize) -> usize {
+fn write(s: &[u8], data: &mut [u8], out: &mut [u8], at: usize) -> usize {
     let byte_order = number(s, 2);
     let start = number(s, byte_order.next);
     let length = number(s, start.next);
@@ -65,12 +66,20 @@ pub fn write(s: &[u8], data: &mut [u8], out: &mut [u8], at: usize) -> usize {
         raw.value,
     );
     let letter = put_byte(out, at, b'w');
-    let to = put_field(out, letter, written_number(answer), 1);
-    put_bytes(out, to, &data[..n])
+    let number = put_field(out, letter, written_number(answer), 1);
+    let to = put_bytes(out, number, &data[..n]);
+    put_byte(out, to, b'\n')
+}
+
+fn put_value(out: &mut [u8], at: usize, value: Extracted) -> usize {
+    match value {
+        Extracted::Value(v) => put_float(out, at, v),
+        Extracted::Nothing => put_refused(out, at, 1),
+    }
 }
 
 // `x`: the raw number and the physical value by a definition.
-pub fn signal(s: &[u8], data: &mut [u8], out: &mut [u8], at: usize) -> usize {
+fn signal(s: &[u8], data: &mut [u8], out: &mut [u8], at: usize) -> usize {
     let d = definition(s, 2);
     let data_len = number(s, d.next);
     let n = bytes(s, data_len.next, data);
@@ -79,17 +88,16 @@ pub fn signal(s: &[u8], data: &mut [u8], out: &mut [u8], at: usize) -> usize {
     let value = extract_signal(&data[..n], data_len.value as usize, def);
     let letter = put_byte(out, at, b'x');
     let to = put_raw(out, letter, raw);
-    match value {
-        Extracted::Value(v) => put_float(out, to, v),
-        Extracted::Nothing => put_refused(out, to, 1),
-    }
+    let end = put_value(out, to, value);
+    put_byte(out, end, b'\n')
 }
 
 // `n`: the f32 nearest to an unsigned number.
-pub fn unsigned(s: &[u8], out: &mut [u8], at: usize) -> usize {
+fn unsigned(s: &[u8], out: &mut [u8], at: usize) -> usize {
     let x = number(s, 2);
-    let to = put_byte(out, at, b'n');
-    put_float(out, to, nearest_u64(x.value))
+    let letter = put_byte(out, at, b'n');
+    let to = put_float(out, letter, nearest_u64(x.value));
+    put_byte(out, to, b'\n')
 }
 
 // The 64 bits as two's complement.
@@ -101,15 +109,30 @@ fn signed_of(n: u64) -> i64 {
 }
 
 // `i`: the f32 nearest to a signed number.
-pub fn signed(s: &[u8], out: &mut [u8], at: usize) -> usize {
+fn signed(s: &[u8], out: &mut [u8], at: usize) -> usize {
     let x = number(s, 2);
-    let to = put_byte(out, at, b'i');
-    put_float(out, to, nearest_i64(signed_of(x.value)))
+    let letter = put_byte(out, at, b'i');
+    let to = put_float(out, letter, nearest_i64(signed_of(x.value)));
+    put_byte(out, to, b'\n')
 }
 
 // `q`: the square root.
-pub fn root(s: &[u8], out: &mut [u8], at: usize) -> usize {
+fn root(s: &[u8], out: &mut [u8], at: usize) -> usize {
     let x = number(s, 2);
-    let to = put_byte(out, at, b'q');
-    put_float(out, to, sqrt_approx(float(x.value)))
+    let letter = put_byte(out, at, b'q');
+    let to = put_float(out, letter, sqrt_approx(float(x.value)));
+    put_byte(out, to, b'\n')
+}
+
+// The answer to a call that keeps no state. Any other line is left out.
+pub fn answered(letter: u8, s: &[u8], data: &mut [u8], out: &mut [u8], at: usize) -> usize {
+    match letter {
+        b'r' => raw(s, data, out, at),
+        b'w' => write(s, data, out, at),
+        b'x' => signal(s, data, out, at),
+        b'n' => unsigned(s, out, at),
+        b'i' => signed(s, out, at),
+        b'q' => root(s, out, at),
+        _ => at,
+    }
 }

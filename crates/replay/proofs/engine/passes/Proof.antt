@@ -1,6 +1,5 @@
 -- `replay::engine::passes` is safe and ends.
 -- Assumes nothing.
-use lib.ListN.{length}
 use borrow.Author.Needs.{needs}
 use Rattle.replay.proofs.engine.passes.Statement.{statement}
 use Rattle.replay.proofs.engine.passes.Tie as tie
@@ -41,6 +40,9 @@ cast-put-field c = search needs
 put-field-requires : tie.Need-put-field-requires Inv-loop μ-loop
 put-field-requires c κs = search needs
 
+put-byte-requires-2 : tie.Need-put-byte-requires-2 Inv-loop μ-loop
+put-byte-requires-2 c κs = search needs
+
 same-length : tie.Need-same-length Inv-loop μ-loop
 same-length c = search needs
 
@@ -63,5 +65,6 @@ passes-spec =
     next-slot-requires
     cast-put-field
     put-field-requires
+    put-byte-requires-2
     same-length
     returns)

@@ -25,6 +25,9 @@ put-field-requires c κs = search needs
 loop-holds : tie.Need-loop-holds Inv-loop μ-loop
 loop-holds c = search needs
 
+put-byte-requires : tie.Need-put-byte-requires Inv-loop μ-loop
+put-byte-requires c κs = search needs
+
 same-length : tie.Need-same-length Inv-loop μ-loop
 same-length c = search needs
 
@@ -49,6 +52,9 @@ loop-less c = search needs
 loop-again : tie.Need-loop-again Inv-loop μ-loop
 loop-again c = search needs
 
+put-byte-requires-2 : tie.Need-put-byte-requires-2 Inv-loop μ-loop
+put-byte-requires-2 c κs = search needs
+
 same-length-2 : tie.Need-same-length-2 Inv-loop μ-loop
 same-length-2 c = search needs
 
@@ -65,6 +71,7 @@ put-reports-spec =
     put-text-requires
     put-field-requires
     loop-holds
+    put-byte-requires
     same-length
     returns
     mul-report
@@ -73,5 +80,6 @@ put-reports-spec =
     add-i
     loop-less
     loop-again
+    put-byte-requires-2
     same-length-2
     returns-2)

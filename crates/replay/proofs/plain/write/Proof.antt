@@ -60,6 +60,9 @@ slice-aggregate-put-bytes c = sym (length-take-le _ _ (search needs))
 put-bytes-requires : tie.Need-put-bytes-requires
 put-bytes-requires c κs = search needs
 
+put-byte-requires-2 : tie.Need-put-byte-requires-2
+put-byte-requires-2 c κs = search needs
+
 same-length : tie.Need-same-length
 same-length c = search needs
 
@@ -91,6 +94,7 @@ write-spec =
     slice-reshare-prefix-put-bytes
     slice-aggregate-put-bytes
     put-bytes-requires
+    put-byte-requires-2
     same-length
     same-length-2
     returns)

@@ -9,20 +9,22 @@ use std::time::{Duration, Instant};
 struct Asked {
     seconds: Option<u64>,
     cases: Option<u64>,
+    logs: Option<u64>,
     seed: u64,
 }
 
 fn asked() -> Asked {
-    let mut a = Asked { seconds: None, cases: None, seed: 1 };
+    let mut a = Asked { seconds: None, cases: None, logs: None, seed: 1 };
     let words: Vec<String> = std::env::args().skip(1).collect();
     for pair in words.chunks(2) {
         let n = pair.get(1).and_then(|n| n.parse().ok());
         match (pair[0].as_str(), n) {
             ("--seconds", Some(n)) => a.seconds = Some(n),
             ("--cases", Some(n)) => a.cases = Some(n),
+            ("--logs", Some(n)) => a.logs = Some(n),
             ("--seed", Some(n)) => a.seed = n,
             _ => {
-                eprintln!("usage: compare [--seconds N] [--cases N] [--seed N]");
+                eprintln!("usage: compare [--seconds N] [--cases N] [--logs N] [--seed N]");
                 exit(2);
             }
         }
@@ -154,14 +156,37 @@ impl Bench {
         let long = g::log(&mut d, 5_000);
         self.log(&long, 5_000);
         for _ in 0..40 {
-            let records = 1 + d.below(60);
-            let mut short = g::log(&mut d, records as usize);
-            for _ in 0..=d.below(3) {
-                if !short.is_empty() {
-                    g::damage(&mut d, &mut short);
-                }
+            self.damaged(&mut d);
+        }
+    }
+
+    /// A short log that came in damaged.
+    fn damaged(&mut self, d: &mut g::Dice) {
+        let records = 1 + d.below(60);
+        let mut short = g::log(d, records as usize);
+        for _ in 0..=d.below(3) {
+            if !short.is_empty() {
+                g::damage(d, &mut short);
             }
-            self.log(&short, records);
+        }
+        self.log(&short, records);
+    }
+
+    /// The example logs, cut at every byte, and so many damaged ones.
+    fn logs(&mut self, seed: u64, n: u64, since: Instant) {
+        let examples = Path::new(env!("CARGO_MANIFEST_DIR")).join("../../examples");
+        for name in ["document01.log", "larger.log"] {
+            let whole = std::fs::read(examples.join(name)).expect("an example");
+            for cut in 0..=whole.len() {
+                self.log(&whole[..cut], 0);
+            }
+        }
+        let mut d = g::Dice::new(seed);
+        for i in 0..n {
+            self.damaged(&mut d);
+            if i % 10_000 == 9_999 {
+                self.say(since);
+            }
         }
     }
 
@@ -178,9 +203,13 @@ fn main() {
     let mut b = Bench { replay: bin.join("replay"), framelog: bin.join("framelog"), scratch, calls: 0, records: 0, logs: 0 };
     let since = Instant::now();
     let mut said = since;
-    b.fixed();
+    if let Some(n) = asked.logs {
+        b.logs(asked.seed, n, since);
+    } else {
+        b.fixed();
+    }
     let (mut seed, mut rounds) = (asked.seed, 0);
-    loop {
+    while asked.logs.is_none() {
         let late = asked.seconds.is_some_and(|s| since.elapsed().as_secs() >= s);
         let enough = asked.cases.is_some_and(|c| b.calls >= c);
         if late || enough || (asked.seconds.is_none() && asked.cases.is_none() && rounds > 0) {

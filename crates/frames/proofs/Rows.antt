@@ -16,7 +16,7 @@ use Rattle.table.specs.Table.{rowsOf, idOf}
 use Rattle.table.proofs.Laws.{map-take, chosen, passed}
 use Rattle.table.proofs.Columns.{Sound, past, pastSignal, length-rows, row-is, ids-are}
 use Rattle.frames.specs.declared.Multiplexor.{Multiplexor}
-use Rattle.frames.specs.Frames.{typed, applies, numberOf, multiplexorOf, stepRow, nextOf}
+use Rattle.frames.specs.Frames.{typed, applies, selects, multiplexorOf, stepRow, nextOf}
 use Rattle.frames.proofs.Lists.{tally, tally-cons, tally-map}
 
 -- whether a row has the identifier
@@ -37,6 +37,9 @@ module _ (id : ℕ) (x : Bool) (row : Entry) where
 
   pub both-same : eqb (row .id) id ≡ true → typed x (row .signal .definition) ≡ true → applies id x row ≡ true
   both-same h k = ap (λ (b : Bool). pick b (typed x (row .signal .definition)) false) h ∙ k
+
+  pub not-selecting : eqb (row .id) id ≡ false → selects id x row ≡ false
+  not-selecting h = passed _ _ refl (not-named h)
 
 module _ (id : ℕ) (x : Bool) (s : List ℕ) (len : ℕ) where
   -- a row that doesn't apply stays
@@ -66,11 +69,7 @@ module _ (id : ℕ) (x : Bool) (s : List ℕ) (len : ℕ) where
   none-selects [] r h = refl
   none-selects (row ∷ l) r h =
       let a = absent row l h in
-      ap
-      (λ (b : Bool).
-      pick (pick b (row .signal .definition .«is_multiplexor») false) (numberOf s len (row .signal .definition)) (multiplexorOf id x s len (l ++ r)))
-      (not-named id x row (a .0))
-      ∙ none-selects l r (a .1)
+      passed _ _ refl (not-selecting id x row (a .0)) ∙ none-selects l r (a .1)
 
 -- ---- what two loops go over: the first n rows of an engine, and a frame by its identifier, type, bytes and data length
 pub record Visit : Type 0 where

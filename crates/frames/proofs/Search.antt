@@ -11,13 +11,13 @@ use lib.Seq.{drop-cons}
 use Rattle.table.specs.declared.Entry.{Entry}
 use Rattle.table.specs.Rows.{pick}
 use Rattle.table.specs.Table.{live}
-use Rattle.table.proofs.Laws.{length-keep}
+use Rattle.table.proofs.Laws.{length-keep, passed}
 use Rattle.table.proofs.Columns.{Sound, past, live-is}
 use Rattle.frames.specs.declared.Multiplexor.{Multiplexor}
 use Rattle.frames.specs.declared.Multiplexor.the-variants.{Missing}
 use Rattle.frames.specs.Frames.{typed, numberOf, numberOr, multiplexorOf}
 use Rattle.frames.proofs.Lists.{tally, front-hit, front-miss}
-use Rattle.frames.proofs.Rows.{named, read, not-named, none-selects, Visit, rows, long, row-read, rows-all, hits-are}
+use Rattle.frames.proofs.Rows.{named, read, not-selecting, none-selects, Visit, rows, long, row-read, rows-all, hits-are}
 
 -- ---- one row more in front
 module _ (id : ℕ) (x : Bool) (s : List ℕ) (len : ℕ) (row : Entry) (l : List Entry) where
@@ -46,12 +46,7 @@ module _ (id : ℕ) (x : Bool) (s : List ℕ) (len : ℕ) (row : Entry) (l : Lis
       at false = refl
 
   pub mux-other : {m : Multiplexor} → eqb (row .id) id ≡ false → m ≡ multiplexorOf id x s len l → m ≡ multiplexorOf id x s len (row ∷ l)
-  mux-other h e =
-      e
-      ∙ ap
-      (λ (b : Bool).
-      pick (pick b (row .signal .definition .«is_multiplexor») false) number (multiplexorOf id x s len l))
-      (sym (not-named id x row h))
+  mux-other h e = e ∙ sym (passed _ _ refl (not-selecting id x row h))
 
 -- ---- the loop: so many rows with the identifier stand before j, and the multiplexor of the rows from j on is known
 abbrev pub muxFrom : Visit → List Entry → Multiplexor

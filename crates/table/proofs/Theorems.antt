@@ -1,23 +1,21 @@
--- What follows of the promises: a definition that passes the tests, the count of rows, what an answer says, and that each promise determines its answer.
+-- What follows of the promises: a definition that passes the tests, the count of rows, the end of the slots, and what an answer says.
 -- Assumes nothing.
 use mathlib.Core.Path.{_≡_, refl, sym, ap, _∙_}
 use mathlib.Core.Bool.{Bool, true, false, _&&_}
-use mathlib.Core.List.{List, [], _∷_}
+use mathlib.Core.List.{[], _∷_}
 use Prim.Native.Nat.{ℕ, _+_, _≤_}
 use native.Mathlib.Decide.{decLe}
 use native.Mathlib.Omega.{arith}
 use lib.Dec.{leb}
-use lib.Ieee.{Float}
 use lib.Ieee.Scale.{finite}
 use lib.ListN.{length, take}
 use borrow.Author.Tests.{eq-eqb, leb-true}
 use Rattle.conversion.specs.declared.SignalDefinition.{SignalDefinition}
 use Rattle.table.specs.declared.Answer.{Answer}
 use Rattle.table.specs.declared.Answer.the-variants.{Slot, Done, Refused}
-use Rattle.table.specs.declared.Defined.{Defined}
 use Rattle.table.specs.declared.SignalIdsEngine.{SignalIdsEngine}
 use Rattle.table.specs.Rows.{pick, every}
-use Rattle.table.specs.Table.{Table, Told, accepted, refused, live, tableOf, defined, created, lengthOk, scaleOk, idOk, muxOk, signOk, fault, entryOf, below, has, define′, remove′, faults, slotsOk, batch′, appendedAll}
+use Rattle.table.specs.Table.{Table, Told, accepted, refused, tableOf, defined, lengthOk, scaleOk, idOk, muxOk, signOk, fault, entryOf, below, has, define′, faults, slotsOk, batch′, appendedAll}
 use Rattle.table.specs.Calls.{TableCall, defines, batches, removes, told, brought, numbered, takenOut}
 use Rattle.table.specs.Regular.{Proper, Regular}
 use Rattle.table.proofs.Laws.{length-insert, length-drop-first}
@@ -142,22 +140,3 @@ refused-only e c k = go (told (tableOf e) c) refl
     go : (x : Told) → told (tableOf e) c ≡ x → defined e x .answer ≡ Refused k → x ≡ refused k
     go (refused j) h i = let same : j ≡ k = cc in ap refused same
     go (accepted a u) h i = absurd (accepted-answer (tableOf e) c a u k h i)
-
--- ---- two answers that a promise allows are equal
-pub new-once : (alpha threshold : Float) (r s : Defined) → r ≡ created alpha threshold → s ≡ created alpha threshold → r ≡ s
-new-once alpha threshold r s p q = p ∙ sym q
-
-pub define-once : (e : SignalIdsEngine) (d : SignalDefinition) (r s : Defined) → r ≡ defined e (define′ (tableOf e) d) → s ≡ defined e (define′ (tableOf e) d) → r ≡ s
-define-once e d r s p q = p ∙ sym q
-
-pub batch-once : (e : SignalIdsEngine) (ds : List SignalDefinition) (n : ℕ) (r s : Defined) → r ≡ defined e (batch′ (tableOf e) ds n) → s ≡ defined e (batch′ (tableOf e) ds n) → r ≡ s
-batch-once e ds n r s p q = p ∙ sym q
-
-pub remove-once : (e : SignalIdsEngine) (slot : ℕ) (r s : Defined) → r ≡ defined e (remove′ (tableOf e) slot) → s ≡ defined e (remove′ (tableOf e) slot) → r ≡ s
-remove-once e slot r s p q = p ∙ sym q
-
-pub count-once : (e : SignalIdsEngine) (r s : ℕ) → r ≡ length (live e) → s ≡ length (live e) → r ≡ s
-count-once e r s p q = p ∙ sym q
-
-pub next-once : (e : SignalIdsEngine) (r s : ℕ) → r ≡ e .«next_slot» → s ≡ e .«next_slot» → r ≡ s
-next-once e r s p q = p ∙ sym q

@@ -16,7 +16,7 @@ use Rattle.table.specs.Table.{rowsOf, idOf}
 use Rattle.table.proofs.Laws.{map-take, chosen, passed}
 use Rattle.table.proofs.Columns.{Sound, past, pastSignal, length-rows, row-is, ids-are}
 use Rattle.frames.specs.declared.Multiplexor.{Multiplexor}
-use Rattle.frames.specs.Frames.{typed, applies, selects, multiplexorOf, stepRow, nextOf}
+use Rattle.frames.specs.Frames.{same, applies, selects, multiplexorOf, stepRow, nextOf}
 use Rattle.frames.proofs.Lists.{tally, tally-cons, tally-map}
 
 -- whether a row has the identifier
@@ -30,13 +30,13 @@ read e i = record { id = getD (e .ids) i 0; signal = getD (e .signals) i pastSig
 -- ---- which rows apply
 module _ (id : ℕ) (x : Bool) (row : Entry) where
   pub not-named : eqb (row .id) id ≡ false → applies id x row ≡ false
-  not-named h = ap (λ (b : Bool). pick b (typed x (row .signal .definition)) false) h
+  not-named h = ap (λ (b : Bool). pick b (same (row .signal .definition .«is_extended») x) false) h
 
-  pub not-typed : eqb (row .id) id ≡ true → typed x (row .signal .definition) ≡ false → applies id x row ≡ false
-  not-typed h k = ap (λ (b : Bool). pick b (typed x (row .signal .definition)) false) h ∙ k
+  pub not-typed : eqb (row .id) id ≡ true → same (row .signal .definition .«is_extended») x ≡ false → applies id x row ≡ false
+  not-typed h k = ap (λ (b : Bool). pick b (same (row .signal .definition .«is_extended») x) false) h ∙ k
 
-  pub both-same : eqb (row .id) id ≡ true → typed x (row .signal .definition) ≡ true → applies id x row ≡ true
-  both-same h k = ap (λ (b : Bool). pick b (typed x (row .signal .definition)) false) h ∙ k
+  pub both-same : eqb (row .id) id ≡ true → same (row .signal .definition .«is_extended») x ≡ true → applies id x row ≡ true
+  both-same h k = ap (λ (b : Bool). pick b (same (row .signal .definition .«is_extended») x) false) h ∙ k
 
   pub not-selecting : eqb (row .id) id ≡ false → selects id x row ≡ false
   not-selecting h = passed _ _ refl (not-named h)

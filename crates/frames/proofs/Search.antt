@@ -15,7 +15,8 @@ use Rattle.table.proofs.Laws.{length-keep, passed}
 use Rattle.table.proofs.Columns.{Sound, past, live-is}
 use Rattle.frames.specs.declared.Multiplexor.{Multiplexor}
 use Rattle.frames.specs.declared.Multiplexor.the-variants.{Missing}
-use Rattle.frames.specs.Frames.{typed, numberOf, numberOr, multiplexorOf}
+use Rattle.frames.specs.Frames.{same, numberOf, multiplexorOf}
+use Rattle.frames.specs.Parts.{numberOr}
 use Rattle.frames.proofs.Lists.{tally, front-hit, front-miss}
 use Rattle.frames.proofs.Rows.{named, read, not-selecting, none-selects, Visit, rows, long, row-read, rows-all, hits-are}
 
@@ -32,11 +33,11 @@ module _ (id : ℕ) (x : Bool) (s : List ℕ) (len : ℕ) (row : Entry) (l : Lis
   unfolding numberOr
   mux-named {m} h e g =
       g
-      ∙ ap (λ (k : Multiplexor). pick (typed x (row .signal .definition)) (pick (row .signal .definition .«is_multiplexor») number k) k) e
-      ∙ at (typed x (row .signal .definition))
+      ∙ ap (λ (k : Multiplexor). pick (same (row .signal .definition .«is_extended») x) (pick (row .signal .definition .«is_multiplexor») number k) k) e
+      ∙ at (same (row .signal .definition .«is_extended») x)
       ∙ ap
       (λ (b : Bool).
-      pick (pick (pick b (typed x (row .signal .definition)) false) (row .signal .definition .«is_multiplexor») false) number (multiplexorOf id x s len l))
+      pick (pick (pick b (same (row .signal .definition .«is_extended») x) false) (row .signal .definition .«is_multiplexor») false) number (multiplexorOf id x s len l))
       (sym h)
     where
       at : (b : Bool)

@@ -9,7 +9,7 @@ use denote.Ref.{now}
 use lib.ListN.{length-map}
 use Rattle.table.specs.declared.SignalIdsEngine.{SignalIdsEngine}
 use Rattle.table.proofs.Columns.{Sound}
-use Rattle.frames.specs.Frames.{raisedOf}
+use Rattle.frames.specs.Parts.{raisedOf}
 use Rattle.frames.proofs.Answers.{room}
 use Rattle.frames.proofs.Rows.{Visit}
 use Rattle.frames.proofs.Search.{Searching, search-begins, search-named, search-other, search-ends}

@@ -3,10 +3,10 @@
 use mathlib.Core.Path.{_≡_, refl, sym, ap, _∙_}
 use mathlib.Core.Bool.{Bool, true, false}
 use mathlib.Core.List.{List, _∷_}
-use Prim.Native.Nat.{ℕ, suc, _+_, _-_, _≤_, _<_, min}
+use Prim.Native.Nat.{ℕ, suc, _-_, _≤_, _<_, min}
 use native.Mathlib.Omega.{arith}
 use lib.Dec.{eqb}
-use lib.ListN.{length, getD, take, drop, length-take, take-append-drop, drop-of-length-le}
+use lib.ListN.{getD, take, drop, length-take, take-append-drop, drop-of-length-le}
 use lib.Seq.{drop-cons}
 use Rattle.table.specs.declared.Entry.{Entry}
 use Rattle.table.specs.Rows.{pick}

@@ -5,7 +5,7 @@ use mathlib.Core.Bool.{Bool, true, false}
 use mathlib.Core.List.{List, [], _∷_, _++_, map, flatMap}
 use Prim.Native.Nat.{ℕ, zero, suc, _+_, _^_, _≤_, _<_, min}
 use native.Mathlib.Omega.{arith}
-use lib.Dec.{eqb, leb}
+use lib.Dec.{leb}
 use native.Mathlib.Nat.{lt-of-lt-of-le}
 use borrow.Author.Tests.{leb-true}
 use lib.Pow.{pow-mono}
@@ -21,7 +21,7 @@ use Rattle.table.specs.declared.Signal.{Signal}
 use Rattle.table.specs.declared.Entry.{Entry}
 use Rattle.table.specs.declared.SignalIdsEngine.{SignalIdsEngine}
 use Rattle.table.specs.Rows.{pick, keep, every}
-use Rattle.table.specs.Table.{Table, joined, rowsOf, live, detectorOf, tableOf, withRows, fault, lengthOk, scaleOk, idOk, muxOk, signOk}
+use Rattle.table.specs.Table.{joined, rowsOf, live, detectorOf, tableOf, withRows, fault, lengthOk, scaleOk, idOk, muxOk, signOk}
 use Rattle.table.specs.Regular.{Proper}
 use Rattle.table.proofs.Laws.{chosen, map-take}
 use Rattle.table.proofs.Columns.{Sound, detectors-are}
@@ -32,9 +32,8 @@ use Rattle.frames.specs.declared.Outcome.{Outcome}
 use Rattle.frames.specs.declared.Outcome.the-variants.{PassedOver, NoValue, First, Warming, Scored}
 use Rattle.frames.specs.declared.Report.{Report}
 use Rattle.frames.specs.declared.Step.{Step}
-use Rattle.frames.specs.declared.SignalAnomaly.{SignalAnomaly}
 use Rattle.frames.specs.declared.Processed.{Processed}
-use Rattle.frames.specs.Frames.{applies, numbered, numberOf, multiplexorOf, meets, sampled, stepRow, nextOf, advanced, reportOf, reports, Finding, passedOver, noValue, firstSample, warmingUp, scored, outcomeMeans, isFlagged, flags, anomaly, flagged, listed, answered, moved, processed, processedFrame}
+use Rattle.frames.specs.Frames.{applies, numbered, numberOf, multiplexorOf, meets, sampled, stepRow, nextOf, advanced, reportOf, reports, Finding, passedOver, noValue, firstSample, warmingUp, scored, outcomeMeans, isFlagged, flags, anomaly, flagged, answered, moved, processed, processedFrame}
 use Rattle.frames.proofs.Steps.{step-sampled}
 use Rattle.frames.proofs.Lists.{tally-cons}
 use Rattle.frames.proofs.Rows.{next-stays}

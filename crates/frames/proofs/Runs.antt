@@ -5,8 +5,7 @@ use mathlib.Core.Bool.{false}
 use mathlib.Core.List.{List, [], _∷_}
 use Prim.Native.Nat.{ℕ}
 use lib.Ieee.{Float}
-use Rattle.detector.specs.declared.Made.{Made}
-use Rattle.detector.specs.declared.Made.the-variants as made
+use Rattle.detector.specs.Answers.{Configured, configured, unconfigured}
 use Rattle.detector.specs.Ewma.{madeOf, idle}
 use Rattle.table.specs.declared.Defined.{Defined}
 use Rattle.table.specs.declared.SignalIdsEngine.{SignalIdsEngine}
@@ -73,9 +72,9 @@ ran-regular (c ∷ cs) e g = ran-regular cs (after e c) (after-regular e c g)
 new-regular : (alpha threshold : Float) → Regular (tableOf (created alpha threshold .engine))
 new-regular alpha threshold = at (madeOf alpha threshold 10 5)
   where
-    at : (m : Made) → Regular (tableOf (newly m .engine))
-    at (made.Detector f) = subst Regular (sym (table-engine (emptyTable f))) (empty-regular f)
-    at made.Refused = subst Regular (sym (table-engine (emptyTable idle))) (empty-regular idle)
+    at : (m : Configured) → Regular (tableOf (newly m .engine))
+    at (configured f) = subst Regular (sym (table-engine (emptyTable f))) (empty-regular f)
+    at (unconfigured k) = subst Regular (sym (table-engine (emptyTable idle))) (empty-regular idle)
 
 pub run-regular : (alpha threshold : Float) (r : Defined) → r ≡ created alpha threshold → {cs : List Call} {ws : List Said} {z : SignalIdsEngine} → Run (r .engine) cs ws z → Regular (tableOf z)
 run-regular alpha threshold r h {cs} {ws} {z} run =

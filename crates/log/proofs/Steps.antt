@@ -1,0 +1,276 @@
+-- One record: how many bytes it takes, and how much it prints. What `advance` promises leaves one answer. Assumes nothing.
+use mathlib.Core.Path.{_≡_, refl, sym, _∙_, ap, subst}
+use mathlib.Core.Bool.{Bool, true, false, cond, not}
+use mathlib.Core.List.{List, [], _∷_}
+use mathlib.Core.Logic.{_⊎_, inl, inr}
+use Prim.Native.Nat.{ℕ, _+_, _-_, _^_, _<_, _≤_}
+use native.Mathlib.Omega.{arith}
+use lib.ListN.{length, take, getD}
+use lib.Seq.{drop-cons}
+use lib.Dec.{ltb, leb, eqb, T}
+use borrow.Author.Tests.{ltb-false, eqb-false}
+use Rattle.table.specs.declared.SignalIdsEngine.{SignalIdsEngine}
+use Rattle.table.specs.declared.Answer.{Answer}
+use Rattle.frames.specs.declared.CanFrame.{CanFrame}
+use Rattle.log.specs.declared.decode.Mark.{Mark}
+use Rattle.log.specs.declared.decode.Request.{Request}
+use Rattle.log.specs.declared.decode.Item.{Item}
+use Rattle.log.specs.declared.stream.Log.{Log}
+use Rattle.log.specs.declared.stream.Step.{Step}
+use Rattle.log.specs.declared.stream.Status.{Status}
+use Rattle.log.specs.Records.{itemOf, marked, markOf, sizeOf, misplaced, recordOf, settingsOf, defineOf, removeOf, frameOf, badFlags, definitionOf, le16, le32}
+use Rattle.log.specs.Lines.{Put, ascii}
+use Rattle.log.specs.Output.{createdBy, definedBy, removedBy, processedBy, startOf, dataOf, frameAt, Move, itemStep, stepOf, settledStep, requestStep, frameStep, goStep, stopStep, waitStep, lastNumber, goesOn, waiting}
+use Rattle.log.specs.Pieces.{Does, after, soundOf}
+use Rattle.log.proofs.Texts.{line-length, answer-length, lines-length, length-take-min, nothing}
+use Rattle.log.proofs.Below.{few}
+
+-- a choice has what both sides have
+pub choose : {A : Type 0} (P : A → Type 0) (b : Bool) (x y : A) → (b ≡ true → P x) → (b ≡ false → P y) → P (cond b x y)
+choose P true x y p q = p refl
+choose P false x y p q = q refl
+
+abbrev frameOf′ : ℕ → Bool → ℕ → List ℕ → CanFrame
+frameOf′ id x n l = record { id = id; «is_extended» = x; length = n; «data» = l }
+
+eight : (s : List ℕ) → 16 ≤ length s
+    → getD s 8 0 ∷ getD s 9 0 ∷ getD s 10 0 ∷ getD s 11 0 ∷ getD s 12 0 ∷ getD s 13 0 ∷ getD s 14 0 ∷ getD s 15 0 ∷ [] ≡ dataOf s
+eight s h =
+    rw (
+      drop-cons s 8 0 (omega arith),
+      drop-cons s 9 0 (omega arith),
+      drop-cons s 10 0 (omega arith),
+      drop-cons s 11 0 (omega arith),
+      drop-cons s 12 0 (omega arith),
+      drop-cons s 13 0 (omega arith),
+      drop-cons s 14 0 (omega arith),
+      drop-cons s 15 0 (omega arith),
+    ) refl
+
+-- the data bytes one by one
+pub framed : (id : ℕ) (x : Bool) (n : ℕ) (s : List ℕ) → 16 ≤ length s
+    → record { id = id; «is_extended» = x; length = n; «data» = getD s 8 0 ∷ getD s 9 0 ∷ getD s 10 0 ∷ getD s 11 0 ∷ getD s 12 0 ∷ getD s 13 0 ∷ getD s 14 0 ∷ getD s 15 0 ∷ [] }
+    ≡ frameAt id x n s
+framed id x n s h = ap (λ (l : List ℕ). frameOf′ id x n l) (eight s h)
+
+-- ---- how many bytes an item takes: 0 if the log does not go on
+
+abbrev pub asked : Request → ℕ
+asked (Request.Settings a t) = 10
+asked (Request.Define d) = 24
+asked (Request.Remove k) = 4
+
+abbrev pub taken : Item → ℕ
+taken Item.Wait = 0
+taken (Item.Call q) = asked q
+taken (Item.Frame i x n) = 16
+taken (Item.Stop k) = 0
+
+stop-or : (k m : ℕ) (b : Bool) (i : Item) → taken i ≤ m → taken (cond b (Item.Stop k) i) ≤ m
+stop-or k m true i h = omega arith
+stop-or k m false i h = h
+
+record-taken : (s : List ℕ) (k : Mark) → taken (recordOf s k) ≤ sizeOf k
+unfolding settingsOf defineOf removeOf frameOf
+record-taken s Mark.Settings = omega arith
+record-taken s Mark.Definition = stop-or 13 24 (badFlags (getD s 6 0) (le16 s 22)) (Item.Call (Request.Define (definitionOf s (getD s 6 0)))) (omega arith)
+record-taken s Mark.Removal = omega arith
+record-taken s Mark.Frame =
+    let i = Item.Frame (le32 s 4) (eqb (getD s 2 0) 1) (getD s 3 0) in
+    stop-or 13 16 (leb 2 (getD s 2 0)) (cond (ltb 15 (getD s 3 0)) (Item.Stop 14) i) (stop-or 14 16 (ltb 15 (getD s 3 0)) i (omega arith))
+record-taken s Mark.Unknown = omega arith
+
+marked-taken : (n : ℕ) (s : List ℕ) (k : Mark) → taken (marked n s k) ≤ length s
+marked-taken n s k =
+    choose (λ (i : Item). taken i ≤ length s) (ltb (length s) (sizeOf k)) _ _ (λ _. omega arith)
+    (λ e. choose (λ (i : Item). taken i ≤ length s) (misplaced n k) _ _ (λ _. omega arith)
+    (λ _. omega (arith, ltb-false (length s) (sizeOf k) e, record-taken (take (sizeOf k) s) k)))
+
+-- it takes them from the bytes at hand
+pub item-taken : (n : ℕ) (s : List ℕ) → taken (itemOf n s) ≤ length s
+unfolding itemOf
+item-taken n s =
+    choose (λ (i : Item). taken i ≤ length s) (eqb (length s) 0) _ _ (λ _. omega arith)
+    (λ _. choose (λ (i : Item). taken i ≤ length s) (eqb n 4294967295) _ _ (λ _. omega arith)
+    (λ _. choose (λ (i : Item). taken i ≤ length s) (eqb (length s) 1) _ _ (λ _. omega arith) (λ _. marked-taken n s (markOf (getD s 0 0) (getD s 1 0)))))
+
+-- a record is taken only below the last count
+below : (n : ℕ) (s : List ℕ) → 1 ≤ taken (itemOf n s) → n ≡ 4294967295 → ⊥
+unfolding itemOf
+below n s =
+    choose (λ (i : Item). 1 ≤ taken i → n ≡ 4294967295 → ⊥) (eqb (length s) 0) _ _ (λ _ h _. omega arith)
+    (λ _. choose (λ (i : Item). 1 ≤ taken i → n ≡ 4294967295 → ⊥) (eqb n 4294967295) _ _ (λ _ h _. omega arith)
+    (λ e _ h. eqb-false n 4294967295 e h))
+
+module _ (n : ℕ) (s : List ℕ) (i j : Item) (p : i ≡ itemOf n s) (q : i ≡ j) where
+  -- an item that takes bytes: they are there, and the count is below its last
+  pub has : taken j ≤ length s
+  has = subst (λ (x : Item). taken x ≤ length s) (sym p ∙ q) (item-taken n s)
+
+  pub counts-on : n < 2 ^ 32 → 1 ≤ taken j → n < 4294967295
+  counts-on f h =
+      let k : n ≡ 4294967295 → ⊥ = below n s (subst (λ (x : Item). 1 ≤ taken x) (sym q ∙ p) h) in
+      omega arith
+
+pub asks : (q : Request) → 1 ≤ asked q
+asks (Request.Settings a t) = omega arith
+asks (Request.Define d) = omega arith
+asks (Request.Remove k) = omega arith
+
+-- ---- the steps of the code
+
+-- the same move under another name
+pub does : {d e : List ℕ} {at : ℕ} {m n : Move} {r : Step} → m ≡ n → Does d at m r e → Does d at n r e
+does {d} {e} {at} {m} {n} {r} q p = subst (λ (x : Move). Does d at x r e) q p
+
+-- the same answer under another name
+pub told : {d e : List ℕ} {at : ℕ} {m : Move} {r q : Step} → r ≡ q → Does d at m q e → Does d at m r e
+told {d} {e} {at} {m} {r} {q} w p = subst (λ (x : Step). Does d at m x e) (sym w) p
+
+pub at-item : (ended : Bool) (log : Log) (s : List ℕ) (i j : Item) → i ≡ itemOf (log .count) s → i ≡ j → itemStep ended log s j ≡ stepOf ended log s
+unfolding stepOf
+at-item ended log s i j p q = ap (itemStep ended log s) (sym q ∙ p)
+
+-- a sound record: its answer, and its text in the buffer
+pub sounds : {d e : List ℕ} {at n end : ℕ} (log : Log) {text : List ℕ} {g : SignalIdsEngine} {r : Step} → r ≡ soundOf log g n end → Put d at text end e
+    → Does d at (goStep log n text g) r e
+sounds {d} {e} {at} {n} {end} log {text} {g} {r} q p =
+    record {
+      log = ap (λ (x : Step). x .log) q;
+      used = ap (λ (x : Step). x .used) q;
+      put = subst (λ (k : ℕ). Put d at text k e) (sym (ap (λ (x : Step). x .end) q)) p;
+      status = ap (λ (x : Step). x .status) q;
+    }
+
+pub at-end : (used : ℕ) (log : Log) (ended : Bool) (left k : ℕ) → ended ≡ true → k ≡ lastNumber left → after used (stopStep log k) ≡ after used (waitStep ended log left)
+at-end used log ended left k p q = rw (p, q) refl
+
+-- ---- what a step may be: it waits, or it is the last, or it takes bytes that are there
+
+abbrev pub Kinds : Log → List ℕ → Move → Type 0
+Kinds log s m = (m ≡ waiting log) ⊎ ((m .status ≡ Status.Ended) ⊎ ((m .status ≡ Status.Going) × (1 ≤ m .used) × (m .used ≤ length s)))
+
+settled-kinds : (log : Log) (s : List ℕ) (e : SignalIdsEngine) (a : Answer) → 10 ≤ length s → Kinds log s (settledStep log e a)
+settled-kinds log s e Answer.Done h = inr (inr (refl, omega arith, h))
+settled-kinds log s e (Answer.Slot k) h = inr (inr (refl, omega arith, h))
+settled-kinds log s e (Answer.Refused k) h = inr (inl refl)
+
+request-kinds : (log : Log) (s : List ℕ) (q : Request) → asked q ≤ length s → Kinds log s (requestStep log q)
+request-kinds log s (Request.Settings a t) h = settled-kinds log s (createdBy a t .engine) (createdBy a t .answer) h
+request-kinds log s (Request.Define d) h = inr (inr (refl, omega arith, h))
+request-kinds log s (Request.Remove k) h = inr (inr (refl, omega arith, h))
+
+item-kinds : (ended : Bool) (log : Log) (s : List ℕ) (i : Item) → taken i ≤ length s → Kinds log s (itemStep ended log s i)
+item-kinds true log s Item.Wait h = inr (inl refl)
+item-kinds false log s Item.Wait h = inl refl
+item-kinds ended log s (Item.Call q) h = request-kinds log s q h
+item-kinds ended log s (Item.Frame i x n) h = inr (inr (refl, omega arith, h))
+item-kinds ended log s (Item.Stop k) h = inr (inl refl)
+
+pub step-kinds : (ended : Bool) (log : Log) (s : List ℕ) → Kinds log s (stepOf ended log s)
+unfolding stepOf
+step-kinds ended log s = item-kinds ended log s (itemOf (log .count) s) (item-taken (log .count) s)
+
+-- a step that goes on takes bytes that are there
+pub going : (ended : Bool) (log : Log) (s : List ℕ) → goesOn (stepOf ended log s .status) ≡ true → (1 ≤ stepOf ended log s .used) × (stepOf ended log s .used ≤ length s)
+going ended log s h = go (step-kinds ended log s)
+  where
+    go : Kinds log s (stepOf ended log s) → (1 ≤ stepOf ended log s .used) × (stepOf ended log s .used ≤ length s)
+    go (inl q) = absurd (subst (λ (b : Bool). T (not b)) (sym (ap (λ (m : Move). goesOn (m .status)) q) ∙ h) tt)
+    go (inr (inl q)) = absurd (subst (λ (b : Bool). T (not b)) (sym (ap goesOn q) ∙ h) tt)
+    go (inr (inr w)) = (w .1, w .2)
+
+-- ---- the number of sound records fits its type
+
+settled-count : (log : Log) (e : SignalIdsEngine) (a : Answer) → log .count < 4294967295 → settledStep log e a .log .count < 2 ^ 32
+settled-count log e Answer.Done h = omega arith
+settled-count log e (Answer.Slot k) h = omega arith
+settled-count log e (Answer.Refused k) h = omega arith
+
+request-count : (log : Log) (q : Request) → log .count < 4294967295 → requestStep log q .log .count < 2 ^ 32
+request-count log (Request.Settings a t) h = settled-count log (createdBy a t .engine) (createdBy a t .answer) h
+request-count log (Request.Define d) h = omega arith
+request-count log (Request.Remove k) h = omega arith
+
+item-count : (ended : Bool) (log : Log) (s : List ℕ) (i : Item) → log .count < 2 ^ 32 → i ≡ itemOf (log .count) s → itemStep ended log s i .log .count < 2 ^ 32
+item-count true log s Item.Wait h q = h
+item-count false log s Item.Wait h q = h
+item-count ended log s (Item.Stop k) h q = h
+item-count ended log s (Item.Call r) h q = request-count log r (counts-on (log .count) s (Item.Call r) (Item.Call r) q refl h (asks r))
+item-count ended log s (Item.Frame i x n) h q =
+    let l : log .count < 4294967295 = counts-on (log .count) s (Item.Frame i x n) (Item.Frame i x n) q refl h (omega arith) in
+    omega arith
+
+pub step-count : (ended : Bool) (log : Log) (s : List ℕ) → log .count < 2 ^ 32 → stepOf ended log s .log .count < 2 ^ 32
+unfolding stepOf
+step-count ended log s h = item-count ended log s (itemOf (log .count) s) h refl
+
+-- ---- how long a text is: the room suffices
+
+settled-length : (log : Log) (e : SignalIdsEngine) (a : Answer) → length (settledStep log e a .text) ≤ 512
+settled-length log e Answer.Done = omega arith
+settled-length log e (Answer.Slot k) = omega arith
+settled-length log e (Answer.Refused k) = omega (arith, line-length (ascii "end ") (log .count) (ascii " ") k)
+
+request-length : (log : Log) (q : Request) → length (requestStep log q .text) ≤ 512
+request-length log (Request.Settings a t) = settled-length log (createdBy a t .engine) (createdBy a t .answer)
+request-length log (Request.Define d) = omega (arith, answer-length (ascii "D ") (log .count + 1) (definedBy (log .engine) d .answer))
+request-length log (Request.Remove k) = omega (arith, answer-length (ascii "R ") (log .count + 1) (removedBy (log .engine) k .answer))
+
+frame-length : (log : Log) (f : CanFrame) → length (frameStep log f .text) ≤ 512
+frame-length log f =
+    let r = processedBy (log .engine) f in
+    let n = r .result .«anomaly_count» in
+    omega (arith, lines-length (log .count + 1) (take n (r .result .anomalies)), length-take-min n (r .result .anomalies), few (log .engine) f)
+
+item-length : (ended : Bool) (log : Log) (s : List ℕ) (i : Item) → length (itemStep ended log s i .text) ≤ 512
+item-length true log s Item.Wait = omega (arith, line-length (ascii "end ") (log .count) (ascii " ") (lastNumber (length s)))
+item-length false log s Item.Wait = omega arith
+item-length ended log s (Item.Call q) = request-length log q
+item-length ended log s (Item.Frame i x n) = frame-length log (frameAt i x n s)
+item-length ended log s (Item.Stop k) = omega (arith, line-length (ascii "end ") (log .count) (ascii " ") k)
+
+pub step-length : (ended : Bool) (log : Log) (s : List ℕ) → length (stepOf ended log s .text) ≤ 512
+unfolding stepOf
+step-length ended log s = item-length ended log s (itemOf (log .count) s)
+
+-- no step takes more bytes than there are
+pub step-used : (ended : Bool) (log : Log) (s : List ℕ) → stepOf ended log s .used ≤ length s
+unfolding stepOf
+step-used ended log s = omega (arith, item-used ended log s (itemOf (log .count) s), item-taken (log .count) s)
+  where
+    settled-used : (log : Log) (e : SignalIdsEngine) (a : Answer) → settledStep log e a .used ≤ 10
+    settled-used log e Answer.Done = omega arith
+    settled-used log e (Answer.Slot k) = omega arith
+    settled-used log e (Answer.Refused k) = omega arith
+
+    request-used : (log : Log) (q : Request) → requestStep log q .used ≤ asked q
+    request-used log (Request.Settings a t) = settled-used log (createdBy a t .engine) (createdBy a t .answer)
+    request-used log (Request.Define d) = omega arith
+    request-used log (Request.Remove k) = omega arith
+
+    item-used : (ended : Bool) (log : Log) (s : List ℕ) (i : Item) → itemStep ended log s i .used ≤ taken i
+    item-used true log s Item.Wait = omega arith
+    item-used false log s Item.Wait = omega arith
+    item-used ended log s (Item.Call q) = request-used log q
+    item-used ended log s (Item.Frame i x n) = omega arith
+    item-used ended log s (Item.Stop k) = omega arith
+
+-- ---- each promise leaves one answer, and `advance`'s one buffer
+
+pub one-start : (r q : Log) → r ≡ startOf → q ≡ startOf → r ≡ q
+one-start r q p w = p ∙ sym w
+
+pub one-item : (n : ℕ) (s : List ℕ) (r q : Item) → r ≡ itemOf n s → q ≡ itemOf n s → r ≡ q
+one-item n s r q p w = p ∙ sym w
+
+alike : (r q : Step) → r .log ≡ q .log → r .used ≡ q .used → r .end ≡ q .end → r .status ≡ q .status → r ≡ q
+alike r q a b d e =
+    ap (λ (x : Log). record { log = x; used = r .used; end = r .end; status = r .status }) a
+    ∙ ap (λ (x : ℕ). record { log = q .log; used = x; end = r .end; status = r .status }) b
+    ∙ ap (λ (x : ℕ). record { log = q .log; used = q .used; end = x; status = r .status }) d
+    ∙ ap (λ (x : Status). record { log = q .log; used = q .used; end = q .end; status = x }) e
+
+pub one-answer : (d e f : List ℕ) (at : ℕ) (m : Move) (r q : Step) → Does d at m r e → Does d at m q f → (r ≡ q) × (e ≡ f)
+one-answer d e f at m r q p w =
+    (alike r q (p .log ∙ sym (w .log)) (p .used ∙ sym (w .used)) (p .put .stop ∙ sym (w .put .stop)) (p .status ∙ sym (w .status)), p .put .done ∙ sym (w .put .done))

@@ -1,0 +1,133 @@
+-- Document 01, "The log": all that is printed for an input, `output`.
+-- Assumes nothing.
+use Prim.Native.Nat.{ℕ, zero, suc, _+_}
+use mathlib.Core.Bool.{Bool, true, false, cond}
+use mathlib.Core.List.{List, [], _++_}
+use lib.ListN.{length, take, drop}
+use lib.Dec.{eqb}
+use lib.Ieee.{Float, ofBits, binary32}
+use Rattle.conversion.specs.declared.SignalDefinition.{SignalDefinition}
+use Rattle.table.specs.declared.SignalIdsEngine.{SignalIdsEngine}
+use Rattle.table.specs.declared.Answer.{Answer}
+use Rattle.table.specs.declared.Defined.{Defined}
+use Rattle.table.specs.Table.{tableOf, created, defined, define′, remove′}
+use Rattle.frames.specs.declared.CanFrame.{CanFrame}
+use Rattle.frames.specs.declared.Processed.{Processed}
+use Rattle.frames.specs.Frames.{processedFrame}
+use Rattle.log.specs.declared.decode.Request.{Request}
+use Rattle.log.specs.declared.decode.Item.{Item}
+use Rattle.log.specs.declared.stream.Log.{Log}
+use Rattle.log.specs.declared.stream.Status.{Status}
+use Rattle.log.specs.Records.{itemOf}
+use Rattle.log.specs.Lines.{ascii, answerLine, anomalyLines, endLine}
+
+-- ---- what the calls of the layers below answer, each under one name
+unfoldable pub createdBy : Float → Float → Defined
+createdBy alpha threshold = created alpha threshold
+
+unfoldable pub definedBy : SignalIdsEngine → SignalDefinition → Defined
+definedBy e d = defined e (define′ (tableOf e) d)
+
+unfoldable pub removedBy : SignalIdsEngine → ℕ → Defined
+removedBy e slot = defined e (remove′ (tableOf e) slot)
+
+unfoldable pub processedBy : SignalIdsEngine → CanFrame → Processed
+processedBy e f = processedFrame e f
+
+-- ---- a log so far: how many sound records there were, and the engine that they left.
+-- Before the first the engine is the empty one that stands beside refused settings
+unfoldable pub startOf : Log
+startOf = record { count = 0; engine = createdBy (ofBits binary32 0) (ofBits binary32 0) .engine }
+
+-- one more sound record, with the engine that it left
+abbrev pub countedOf : Log → SignalIdsEngine → Log
+countedOf log e = record { count = log .count + 1; engine = e }
+
+-- what one record does: the log after it, how many bytes it took, what it printed, and how the log stands
+pub record Move : Type 0 where
+  pub log : Log
+  pub used : ℕ
+  pub text : List ℕ
+  pub status : Status
+
+-- a sound record of n bytes
+abbrev pub goStep : Log → ℕ → List ℕ → SignalIdsEngine → Move
+goStep log n text e = record { log = countedOf log e; used = n; text = text; status = Status.Going }
+
+-- the log stops, with its number
+abbrev pub stopStep : Log → ℕ → Move
+stopStep log k = record { log = log; used = 0; text = endLine (log .count) k; status = Status.Ended }
+
+abbrev pub waiting : Log → Move
+waiting log = record { log = log; used = 0; text = []; status = Status.Waiting }
+
+-- no whole record in the n bytes that are left: at the end of the input 0 if none is left, and else 11
+abbrev pub lastNumber : ℕ → ℕ
+lastNumber n = cond (eqb n 0) 0 11
+
+abbrev pub waitStep : Bool → Log → ℕ → Move
+waitStep true log n = stopStep log (lastNumber n)
+waitStep false log n = waiting log
+
+-- settings that are refused are no sound record
+abbrev pub settledStep : Log → SignalIdsEngine → Answer → Move
+settledStep log e Answer.Done = goStep log 10 [] e
+settledStep log e (Answer.Slot k) = goStep log 10 [] e
+settledStep log e (Answer.Refused k) = stopStep log k
+
+abbrev pub settingsStep : Log → Float → Float → Move
+settingsStep log a t = let r = createdBy a t in settledStep log (r .engine) (r .answer)
+
+-- a refused call is a sound record all the same
+abbrev pub defineStep : Log → SignalDefinition → Move
+defineStep log d = let r = definedBy (log .engine) d in goStep log 24 (answerLine (ascii "D ") (log .count + 1) (r .answer)) (r .engine)
+
+abbrev pub removeStep : Log → ℕ → Move
+removeStep log k = let r = removedBy (log .engine) k in goStep log 4 (answerLine (ascii "R ") (log .count + 1) (r .answer)) (r .engine)
+
+abbrev pub requestStep : Log → Request → Move
+requestStep log (Request.Settings a t) = settingsStep log a t
+requestStep log (Request.Define d) = defineStep log d
+requestStep log (Request.Remove k) = removeStep log k
+
+-- a frame prints a line for each listed anomaly
+abbrev pub frameStep : Log → CanFrame → Move
+frameStep log f =
+    let r = processedBy (log .engine) f in
+    goStep log 16 (anomalyLines (log .count + 1) (take (r .result .«anomaly_count») (r .result .anomalies))) (r .engine)
+
+-- a frame's eight data bytes stand behind its header
+abbrev pub dataOf : List ℕ → List ℕ
+dataOf s = take 8 (drop 8 s)
+
+abbrev pub frameAt : ℕ → Bool → ℕ → List ℕ → CanFrame
+frameAt id extended n s = record { id = id; «is_extended» = extended; length = n; «data» = dataOf s }
+
+-- what an item does that stands at the front of the bytes s; `ended` says whether the input ends with them
+abbrev pub itemStep : Bool → Log → List ℕ → Item → Move
+itemStep ended log s Item.Wait = waitStep ended log (length s)
+itemStep ended log s (Item.Stop k) = stopStep log k
+itemStep ended log s (Item.Call q) = requestStep log q
+itemStep ended log s (Item.Frame i x n) = frameStep log (frameAt i x n s)
+
+unfoldable pub stepOf : Bool → Log → List ℕ → Move
+stepOf ended log s = itemStep ended log s (itemOf (log .count) s)
+
+-- ---- THE DEFINITION: what is printed for the bytes of an input, record by record until the log stops
+abbrev pub goesOn : Status → Bool
+goesOn Status.Going = true
+goesOn Status.Waiting = false
+goesOn Status.Full = false
+goesOn Status.Ended = false
+
+-- by at most f records
+unfoldable pub run : ℕ → Log → List ℕ → List ℕ
+run zero log s = []
+run (suc f) log s = let m = stepOf true log s in m .text ++ cond (goesOn (m .status)) (run f (m .log) (drop (m .used) s)) []
+
+-- a record takes a byte at least, or is the last
+abbrev pub outputFrom : Log → List ℕ → List ℕ
+outputFrom log s = run (suc (length s)) log s
+
+abbrev pub output : List ℕ → List ℕ
+output s = outputFrom startOf s

@@ -1,0 +1,118 @@
+-- Document 01, "The log": the record at the front of the bytes, and what its bytes say.
+-- Assumes nothing.
+use Prim.Native.Nat.{ℕ, _+_, _*_, _/_, _%_}
+use mathlib.Core.Bool.{Bool, false, cond, not, _&&_, _||_}
+use mathlib.Core.List.{List}
+use lib.ListN.{length, getD, take}
+use lib.Dec.{ltb, leb, eqb}
+use lib.Ieee.{Float, ofBits, binary32}
+use Rattle.bits.specs.declared.ByteOrder.{ByteOrder}
+use Rattle.conversion.specs.declared.Condition.{Condition}
+use Rattle.conversion.specs.declared.SignalDefinition.{SignalDefinition}
+use Rattle.log.specs.declared.decode.Mark.{Mark}
+use Rattle.log.specs.declared.decode.Request.{Request}
+use Rattle.log.specs.declared.decode.Item.{Item}
+
+-- ---- the mark: A5 50, A5 44, A5 52 or A5 46
+unfoldable pub markOf : ℕ → ℕ → Mark
+markOf a b =
+    cond (eqb a 0xA5)
+    (cond (eqb b 0x50) Mark.Settings
+    (cond (eqb b 0x44) Mark.Definition
+    (cond (eqb b 0x52) Mark.Removal
+    (cond (eqb b 0x46) Mark.Frame Mark.Unknown)))) Mark.Unknown
+
+-- how many bytes a record has, its mark among them; an unknown mark is known by its two
+abbrev pub sizeOf : Mark → ℕ
+sizeOf Mark.Settings = 10
+sizeOf Mark.Definition = 24
+sizeOf Mark.Removal = 4
+sizeOf Mark.Frame = 16
+sizeOf Mark.Unknown = 2
+
+-- ---- little-endian numbers at a place, and a float by its bits
+abbrev pub le16 : List ℕ → ℕ → ℕ
+le16 s i = getD s i 0 + 256 * getD s (i + 1) 0
+
+abbrev pub le32 : List ℕ → ℕ → ℕ
+le32 s i = getD s i 0 + 256 * getD s (i + 1) 0 + 65536 * getD s (i + 2) 0 + 16777216 * getD s (i + 3) 0
+
+abbrev pub float : List ℕ → ℕ → Float
+float s i = ofBits binary32 (le32 s i)
+
+-- ---- settings: alpha, threshold
+unfoldable pub settingsOf : List ℕ → Item
+settingsOf s = Item.Call (Request.Settings (float s 2) (float s 6))
+
+-- ---- a definition. Its flags from bit 0, each by its power of two: extended, Motorola, signed, multiplexor, has condition
+abbrev pub flag : ℕ → ℕ → Bool
+flag power flags = eqb (flags / power % 2) 1
+
+-- an undefined flag is set, or a condition number stands without its flag
+unfoldable pub badFlags : ℕ → ℕ → Bool
+badFlags flags number = leb 32 flags || (not (flag 16 flags) && not (eqb number 0))
+
+unfoldable pub orderOf : ℕ → ByteOrder
+orderOf flags = cond (flag 2 flags) ByteOrder.BigEndian ByteOrder.LittleEndian
+
+unfoldable pub conditionOf : ℕ → ℕ → Condition
+conditionOf flags number = cond (flag 16 flags) (Condition.Only number) Condition.Always
+
+-- identifier, flags, start, length, scale, offset, name hash, condition
+abbrev pub definitionOf : List ℕ → ℕ → SignalDefinition
+definitionOf s flags =
+    record {
+      «can_id» = le32 s 2;
+      «is_extended» = eqb (flags % 2) 1;
+      «start_bit» = le16 s 7;
+      «bit_length» = getD s 9 0;
+      «byte_order» = orderOf flags;
+      scale = float s 10;
+      offset = float s 14;
+      «name_hash» = le32 s 18;
+      signed = flag 4 flags;
+      «is_multiplexor» = flag 8 flags;
+      condition = conditionOf flags (le16 s 22);
+    }
+
+unfoldable pub defineOf : List ℕ → Item
+defineOf s = cond (badFlags (getD s 6 0) (le16 s 22)) (Item.Stop 13) (Item.Call (Request.Define (definitionOf s (getD s 6 0))))
+
+-- ---- a removal: slot
+unfoldable pub removeOf : List ℕ → Item
+removeOf s = Item.Call (Request.Remove (le16 s 2))
+
+-- ---- a frame: flags, of which bit 0 is extended; length, at most 15; identifier. Its eight data bytes follow
+unfoldable pub frameOf : List ℕ → Item
+frameOf s =
+    cond (leb 2 (getD s 2 0)) (Item.Stop 13)
+    (cond (ltb 15 (getD s 3 0)) (Item.Stop 14) (Item.Frame (le32 s 4) (eqb (getD s 2 0) 1) (getD s 3 0)))
+
+-- ---- the record that a mark is the mark of, s being its bytes
+abbrev pub recordOf : List ℕ → Mark → Item
+recordOf s Mark.Settings = settingsOf s
+recordOf s Mark.Definition = defineOf s
+recordOf s Mark.Removal = removeOf s
+recordOf s Mark.Frame = frameOf s
+recordOf s Mark.Unknown = Item.Stop 10
+
+-- after n sound records: the first has to be the settings, and no later one may be
+abbrev pub misplaced : ℕ → Mark → Bool
+misplaced n Mark.Settings = not (eqb n 0)
+misplaced n Mark.Definition = eqb n 0
+misplaced n Mark.Removal = eqb n 0
+misplaced n Mark.Frame = eqb n 0
+misplaced n Mark.Unknown = false
+
+-- behind a mark: a record that is cut waits for its rest, one at a wrong place stops with 12, and else its own bytes decide
+abbrev pub marked : ℕ → List ℕ → Mark → Item
+marked n s k = cond (ltb (length s) (sizeOf k)) Item.Wait (cond (misplaced n k) (Item.Stop 12) (recordOf (take (sizeOf k) s) k))
+
+-- what stands at the front of the bytes, after n sound records. Whether the input ends where the bytes do is not asked here:
+-- what is cut waits, and at the end of the input that is 11 (`waitStep` of Output)
+unfoldable pub itemOf : ℕ → List ℕ → Item
+itemOf n s =
+    cond (eqb (length s) 0) Item.Wait
+    (cond (eqb n 4294967295) (Item.Stop 15)
+    (cond (eqb (length s) 1) Item.Wait
+    (marked n s (markOf (getD s 0 0) (getD s 1 0)))))

@@ -1,0 +1,237 @@
+// A log as it goes: as many records as the bytes at hand and the room for their lines allow.
+ghost use mathlib.Core.Path.{_≡_};
+ghost use Prim.Native.Nat.{_+_, _<_, _≤_};
+ghost use lib.ListN.{length, take, drop};
+ghost use Rattle.log.specs.Output.{startOf, frameAt, goesOn, lastNumber, stopStep, waitStep, settledStep, settingsStep, defineStep, removeStep, requestStep};
+ghost use Rattle.log.specs.Pieces.{Does, after, answerOf, soundOf, advanceOf};
+use crate::decode::Item;
+use crate::decode::Request;
+use crate::decode::item_at_front;
+use crate::lines::put_anomalies;
+use crate::lines::put_answer;
+use crate::lines::put_end;
+use conversion::SignalDefinition;
+use frames::CanFrame;
+use frames::process_frame;
+use table::Answer;
+use table::SignalIdsEngine;
+
+// No record is begun with less room: none prints more than eight lines of at most 55 bytes.
+const ROOM: usize = 512;
+
+pub struct Log {
+    // how many sound records there have been
+    pub count: u32,
+    pub engine: SignalIdsEngine,
+}
+
+pub enum Status {
+    // a record was taken, and the next may follow; no call ends so
+    Going,
+    // the bytes at hand are no whole record
+    Waiting,
+    // there may be no room for what the next record prints
+    Full,
+    // the log has stopped, and its end line is written
+    Ended,
+}
+
+pub struct Step {
+    pub log: Log,
+    // how many bytes were taken
+    pub used: usize,
+    // the place behind what was written
+    pub end: usize,
+    pub status: Status,
+}
+
+// A log before its first record. Its engine is the empty one that refused settings leave.
+pub fn start() -> Log
+    ensures { λ r. ⌜ r ≡ startOf ⌝ }
+{
+    let made = SignalIdsEngine::new(0.0, 0.0);
+    let engine = made.engine;
+    Log { count: 0, engine }
+}
+
+fn answer(log: Log, used: usize, end: usize, status: Status) -> Step
+    ensures { λ r. ⌜ r ≡ answerOf log used end status ⌝ }
+{
+    Step {
+        log,
+        used,
+        end,
+        status,
+    }
+}
+
+// The answer after a sound record of `used` bytes, with the engine that it left.
+fn sound(log: Log, engine: SignalIdsEngine, used: usize, end: usize) -> Step
+    requires { ⌜ log .count < 4294967295 ⌝ }
+    ensures { λ r. ⌜ r ≡ soundOf log engine used end ⌝ }
+{
+    let n = log.count;
+    let next = Log {
+        count: n + 1,
+        engine,
+    };
+    answer(next, used, end, Status::Going)
+}
+
+// The frame whose header was read at the front of s: its data bytes stand behind.
+fn frame_of(id: u32, is_extended: bool, len: u8, s: &[u8]) -> CanFrame
+    requires { ⌜ 16 ≤ length (now s) ⌝ }
+    ensures { λ r. ⌜ r ≡ frameAt id «is_extended» len (now (s .entry)) ⌝ }
+{
+    let data = [s[8], s[9], s[10], s[11], s[12], s[13], s[14], s[15]];
+    CanFrame {
+        id,
+        is_extended,
+        length: len,
+        data,
+    }
+}
+
+// The stopping number where the input ends with so many bytes that are no whole record.
+fn last_number(left: usize) -> u8
+    ensures { λ r. ⌜ r ≡ lastNumber left ⌝ }
+{
+    if left == 0 {
+        return 0;
+    }
+    11
+}
+
+// The log stops, `used` bytes having been taken before.
+fn on_stop(log: Log, used: usize, k: u8, out: &mut [u8], at: usize) -> Step
+    requires { ⌜ at + 512 ≤ length (now out) ⌝ }
+    ensures { λ r. ⌜ Does (now (out .entry)) at (after used (stopStep log k)) r (now (out .exit)) ⌝ }
+{
+    let n = log.count;
+    let end = put_end(out, at, n, k);
+    answer(log, used, end, Status::Ended)
+}
+
+// No whole record at hand: at the end of the input the log ends, and else it waits.
+fn on_wait(log: Log, used: usize, left: usize, ended: bool, out: &mut [u8], at: usize) -> Step
+    requires { ⌜ at + 512 ≤ length (now out) ⌝ }
+    ensures { λ r. ⌜ Does (now (out .entry)) at (after used (waitStep ended log left)) r (now (out .exit)) ⌝ }
+{
+    if ended {
+        return on_stop(log, used, last_number(left), out, at);
+    }
+    answer(log, used, at, Status::Waiting)
+}
+
+// Settings that are refused stop the log.
+fn on_settled(log: Log, engine: SignalIdsEngine, answer: Answer, out: &mut [u8], at: usize) -> Step
+    requires { ⌜ (log .count < 4294967295) × (at + 512 ≤ length (now out)) ⌝ }
+    ensures { λ r. ⌜ Does (now (out .entry)) at (settledStep log engine answer) r (now (out .exit)) ⌝ }
+{
+    match answer {
+        Answer::Slot(_) => sound(log, engine, 10, at),
+        Answer::Done => sound(log, engine, 10, at),
+        Answer::Refused(k) => on_stop(log, 0, k, out, at),
+    }
+}
+
+fn on_settings(log: Log, alpha: f32, threshold: f32, out: &mut [u8], at: usize) -> Step
+    requires { ⌜ (log .count < 4294967295) × (at + 512 ≤ length (now out)) ⌝ }
+    ensures { λ r. ⌜ Does (now (out .entry)) at (settingsStep log alpha threshold) r (now (out .exit)) ⌝ }
+{
+    let made = SignalIdsEngine::new(alpha, threshold);
+    let engine = made.engine;
+    let answer = made.answer;
+    on_settled(log, engine, answer, out, at)
+}
+
+fn on_define(log: Log, d: SignalDefinition, out: &mut [u8], at: usize) -> Step
+    requires { ⌜ (log .count < 4294967295) × (at + 512 ≤ length (now out)) ⌝ }
+    ensures { λ r. ⌜ Does (now (out .entry)) at (defineStep log d) r (now (out .exit)) ⌝ }
+{
+    let old = log.engine;
+    let n = log.count;
+    let r = old.define_signal(d);
+    let engine = r.engine;
+    let answer = r.answer;
+    let end = put_answer(out, at, b"D ", n + 1, answer);
+    sound(log, engine, 24, end)
+}
+
+fn on_remove(log: Log, slot: u16, out: &mut [u8], at: usize) -> Step
+    requires { ⌜ (log .count < 4294967295) × (at + 512 ≤ length (now out)) ⌝ }
+    ensures { λ r. ⌜ Does (now (out .entry)) at (removeStep log slot) r (now (out .exit)) ⌝ }
+{
+    let old = log.engine;
+    let n = log.count;
+    let r = old.remove_signal(slot);
+    let engine = r.engine;
+    let answer = r.answer;
+    let end = put_answer(out, at, b"R ", n + 1, answer);
+    sound(log, engine, 4, end)
+}
+
+fn on_request(log: Log, q: Request, out: &mut [u8], at: usize) -> Step
+    requires { ⌜ (log .count < 4294967295) × (at + 512 ≤ length (now out)) ⌝ }
+    ensures { λ r. ⌜ Does (now (out .entry)) at (requestStep log q) r (now (out .exit)) ⌝ }
+{
+    match q {
+        Request::Settings(alpha, threshold) => on_settings(log, alpha, threshold, out, at),
+        Request::Define(d) => on_define(log, d, out, at),
+        Request::Remove(slot) => on_remove(log, slot, out, at),
+    }
+}
+
+fn goes_on(status: Status) -> bool
+    ensures { λ r. ⌜ r ≡ goesOn status ⌝ }
+{
+    match status {
+        Status::Going => true,
+        Status::Waiting => false,
+        Status::Full => false,
+        Status::Ended => false,
+    }
+}
+
+// As many records as the bytes at hand and the room allow. `ended` says that the input ends with these bytes.
+pub fn advance(log: Log, s: &[u8], ended: bool, out: &mut [u8]) -> Step
+    ensures { λ r. ⌜ Does (now (out .entry)) 0 (advanceOf (length (now (out .entry))) ended log (now (s .entry))) r (now (out .exit)) ⌝ }
+{
+    let mut engine = log.engine;
+    let mut count = log.count;
+    let mut used = 0;
+    let mut end = 0;
+    while out.len() - end >= ROOM {
+        match item_at_front(count, &s[used..]) {
+            Item::Wait => {
+                return on_wait(Log { count, engine }, used, s.len() - used, ended, out, end);
+            }
+            Item::Stop(k) => {
+                return on_stop(Log { count, engine }, used, k, out, end);
+            }
+            Item::Call(q) => {
+                let r = on_request(Log { count, engine }, q, out, end);
+                let next = r.log;
+                let status = r.status;
+                used += r.used;
+                end = r.end;
+                if !goes_on(status) {
+                    return answer(next, used, end, status);
+                }
+                engine = next.engine;
+                count = next.count;
+            }
+            Item::Frame(id, is_extended, length) => {
+                let frame = frame_of(id, is_extended, length, &s[used..]);
+                let done = process_frame(engine, frame);
+                engine = done.engine;
+                let result = done.result;
+                let listed = result.anomalies;
+                count += 1;
+                used += 16;
+                end = put_anomalies(out, end, count, listed, result.anomaly_count);
+            }
+        }
+    }
+    answer(Log { count, engine }, used, end, Status::Full)
+}

@@ -1,0 +1,162 @@
+#!/usr/bin/env python3
+"""Writes the example logs beside this file: document01.log, larger.log, empty.log and damaged/*.log.
+What framelog must print for each is the .out file of the same name."""
+import os
+import struct
+
+HERE = os.path.dirname(os.path.abspath(__file__))
+
+EXTENDED, MOTOROLA, SIGNED, MULTIPLEXOR, CONDITION = 1, 2, 4, 8, 16
+
+
+def settings(alpha=0.5, threshold=3.0):
+    return b"\xa5\x50" + struct.pack("<ff", alpha, threshold)
+
+
+def define(can_id, start, length, scale=1.0, offset=0.0, flags=0, condition=0, name_hash=7):
+    return b"\xa5\x44" + struct.pack("<IBHBffIH", can_id, flags, start, length, scale, offset, name_hash, condition)
+
+
+def remove(slot):
+    return b"\xa5\x52" + struct.pack("<H", slot)
+
+
+def frame(can_id, data, length=None, flags=0):
+    length = len(data) if length is None else length
+    return b"\xa5\x46" + struct.pack("<BBI", flags, length, can_id) + bytes(data).ljust(8, b"\0")
+
+
+def document01():
+    yield settings()
+    yield define(0x100, 0, 8)
+    for _ in range(5):
+        yield frame(0x100, [0])
+    yield frame(0x100, [1])
+
+
+def larger():
+    state = 1
+
+    def noise(n):
+        nonlocal state
+        state = (state * 1103515245 + 12345) % 2**31
+        return state // 65536 % n
+
+    nan, infinity = float("nan"), float("inf")
+    yield settings(0.25, 4.0)
+    # slots 0 to 3: both byte orders, signed and not
+    yield define(0x0C0, 0, 16, 0.25)
+    yield define(0x0C0, 16, 8, 1.0, -40.0)
+    yield define(0x1A0, 7, 12, 0.5, 0.0, MOTOROLA | SIGNED)
+    yield define(0x1A0, 20, 12, 1.0, -100.0, SIGNED)
+    # slots 4 to 6: a multiplexor, and a signal at each of two of its numbers
+    yield define(0x2F0, 0, 4, flags=MULTIPLEXOR)
+    yield define(0x2F0, 8, 16, 0.01, 0.0, CONDITION, 1)
+    yield define(0x2F0, 15, 10, 0.1, 0.0, CONDITION | MOTOROLA | SIGNED, 2)
+    # slots 7 to 9: extended frames, and one number as both frame types
+    yield define(0x18FEF100, 8, 16, 1 / 256, 0.0, EXTENDED)
+    yield define(0x100, 0, 8, flags=EXTENDED)
+    yield define(0x100, 0, 8)
+    # slots 10 to 18: nine signals of one frame, of which eight are listed
+    for k in range(9):
+        yield define(0x3A0, 7 * k, 7, 1.0 + k)
+    # refused, in the order of the tests
+    yield define(0x0C0, 0, 0, nan)
+    yield define(0x0C0, 0, 65)
+    yield define(0x900, 0, 8, nan)
+    yield define(0x0C0, 0, 8, 1.0, infinity)
+    yield define(0x800, 0, 8)
+    yield define(0x20000000, 0, 8, flags=EXTENDED)
+    yield define(0x2F0, 0, 17, flags=MULTIPLEXOR)
+    yield define(0x1A0, 0, 1, flags=SIGNED)
+    # removals: a live slot, the same again, one that never was
+    yield remove(9)
+    yield remove(9)
+    yield remove(19)
+    # the table filled up: one is refused, and taken once there is room
+    for k in range(46):
+        yield define(0x400 + k, k, 8)
+    yield define(0x500, 0, 8)
+    yield remove(30)
+    yield define(0x500, 0, 8)
+
+    for k in range(400):
+        spike = 200 if k % 40 == 39 else 0
+        speed = 2000 + noise(40) + 100 * spike
+        torque = (-300 + noise(9) + 2 * spike) % 4096
+        yield frame(0x0C0, [speed % 256, speed // 256 % 256, 90 + noise(3) + spike // 2])
+        yield frame(0x1A0, [torque // 16, torque % 16 * 16, 0x30, 0xF0 + noise(8)])
+        yield frame(0x2F0, [k % 4, noise(10) + spike, 1 + k % 2, 0])
+        yield frame(0x18FEF100, [0, noise(5), 10 + spike % 128], flags=1)
+        yield frame(0x100, [noise(4) + spike], flags=k % 2)
+        yield frame(0x3A0, [noise(2) + spike] * 8, length=8 + k % 8)
+        # an identifier above its mask, no bytes, and a frame that nothing matches
+        yield frame(0x1F0C0 | 0x40000000, [speed % 256, speed // 256 % 256], length=k % 4)
+        yield frame(0x0C0, [], length=0)
+        yield frame(0x7FF, [k % 256])
+        if k == 200:
+            yield remove(5)
+            yield remove(0)
+            yield define(0x0C0, 0, 16, 0.25)
+
+
+GOOD = b"".join(document01())
+
+DAMAGED = {
+    # what is left is one byte, or a record that is cut
+    "one_byte": b"\xa5",
+    "one_other_byte": b"\x00",
+    "trailing_byte": GOOD + b"\xa5",
+    "mark_only": b"\xa5\x50",
+    "settings_cut": settings()[:-1],
+    "definition_cut": settings() + define(1, 0, 8)[:-1],
+    "removal_cut": settings() + remove(0)[:-1],
+    "frame_cut": GOOD[:-1],
+    # unknown marks
+    "unknown_first_byte": b"\x5a\x50" + settings()[2:],
+    "unknown_second_byte": GOOD + b"\xa5\x51",
+    "unknown_at_once": b"\x00\x00",
+    # the first record isn't the settings, or a later one is; a cut is found before
+    "frame_first": frame(0x100, [0]),
+    "definition_first": define(0x100, 0, 8, flags=32),
+    "frame_first_cut": frame(0x100, [0])[:-1],
+    "settings_again": GOOD + settings(),
+    "bad_settings_again": GOOD + settings(0.0),
+    "settings_again_cut": GOOD + settings()[:-1],
+    # flags, and a condition number without its flag
+    "definition_flag": settings() + define(0x100, 0, 8, flags=32),
+    "definition_flag_high": settings() + define(0x100, 0, 8, flags=0x90),
+    "condition_without_flag": settings() + define(0x100, 0, 8, condition=1),
+    "condition_high_byte": settings() + define(0x100, 0, 8, condition=0x100),
+    "bad_definition_bad_flag": settings() + define(0x900, 0, 0, flags=64),
+    "frame_flag": GOOD + frame(0x100, [0], flags=2),
+    "frame_flag_and_length": GOOD + frame(0x100, [0], length=16, flags=3),
+    # frame lengths
+    "frame_length_16": GOOD + frame(0x100, [0], length=16),
+    "frame_length_255": GOOD + frame(0x100, [0], length=255),
+    # settings that no detector takes
+    "alpha_zero": settings(0.0),
+    "alpha_negative_zero": settings(-0.0),
+    "alpha_above_one": settings(1.5) + define(0x100, 0, 8),
+    "alpha_nan": settings(float("nan")),
+    "threshold_negative": settings(0.5, -1.0),
+    "threshold_infinite": settings(0.5, float("inf")),
+    # nothing is wrong with these
+    "settings_alone": settings(),
+    "alpha_one": settings(1.0, 0.0) + GOOD[10:],
+    "frame_length_15": GOOD + frame(0x100, [9], length=15),
+    "condition_zero": settings() + define(0x100, 0, 8, flags=CONDITION) + define(0x100, 0, 4, flags=MULTIPLEXOR) + frame(0x100, [0]),
+}
+
+
+def write(name, data):
+    with open(os.path.join(HERE, name), "wb") as f:
+        f.write(data)
+
+
+write("document01.log", GOOD)
+write("larger.log", b"".join(larger()))
+write("empty.log", b"")
+os.makedirs(os.path.join(HERE, "damaged"), exist_ok=True)
+for name, data in DAMAGED.items():
+    write(f"damaged/{name}.log", data)

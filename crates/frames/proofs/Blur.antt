@@ -5,9 +5,7 @@ use mathlib.Core.Path.{_≡_, refl, sym, ap, _∙_}
 use mathlib.Core.Bool.{Bool, true, false}
 use mathlib.Core.List.{List, [], _∷_, map}
 use Prim.Native.Nat.{ℕ, _+_}
-use native.Mathlib.Omega.{arith}
 use lib.Dec.{eqb, ltb, leb}
-use borrow.Author.Tests.{eqb-true}
 use lib.ListN.{length, length-map, take}
 use Rattle.conversion.specs.declared.SignalDefinition.{SignalDefinition}
 use Rattle.detector.specs.declared.EwmaDetector.{EwmaDetector}
@@ -17,23 +15,10 @@ use Rattle.table.specs.Rows.{pick, keep, some, dropFirst, insertBehind}
 use Rattle.table.specs.Table.{Table, Told, accepted, refused, withRows, fault, faults, slotsOk, entryOf, below, has, without, added, appended, appendedAll, define′, remove′, batch′}
 use Rattle.table.specs.Calls.{TableCall, defines, batches, removes, told}
 use Rattle.frames.specs.declared.Multiplexor.{Multiplexor}
-use Rattle.frames.specs.Frames.{same, sameKey, applies, selects, numberOf, multiplexorOf, nextOf, advanced, reportOf, reports}
-use Rattle.frames.proofs.Rows.{next-stays}
+use Rattle.frames.specs.Frames.{sameKey, applies, selects, numberOf, multiplexorOf, nextOf, advanced, reportOf, reports}
+use Rattle.frames.proofs.Rows.{key-is, next-stays}
 
--- ---- one key or two
-types-same : (f g : Bool) → same f g ≡ true → f ≡ g
-types-same true true h = refl
-types-same true false h = sym h
-types-same false true h = h
-types-same false false h = refl
-
-pub key-is : (a : ℕ) (f : Bool) (b : ℕ) (g : Bool) → sameKey a f b g ≡ true → (a ≡ b) × (f ≡ g)
-key-is a f b g = go (eqb a b) refl
-  where
-    go : (t : Bool) → eqb a b ≡ t → pick t (same f g) false ≡ true → (a ≡ b) × (f ≡ g)
-    go true e h = (eqb-true a b e, types-same f g h)
-    go false e h = let z : _≡_ {A = ℕ} 0 1 = cc in absurd (omega arith)
-
+-- ---- two keys
 -- a row of another key's frame is none of the key's
 apart : (id : ℕ) (x : Bool) (i : ℕ) (f : Bool) (row : Entry) → sameKey i f id x ≡ false → applies i f row ≡ true → applies id x row ≡ false
 apart id x i f row n h =

@@ -6,6 +6,7 @@ use mathlib.Core.List.{List, [], _∷_, _++_, map}
 use Prim.Native.Nat.{ℕ, suc, _≤_, _<_}
 use native.Mathlib.Omega.{arith}
 use lib.Dec.{eqb}
+use borrow.Author.Tests.{eqb-true}
 use lib.ListN.{length, getD, take}
 use lib.Seq.{length-take-le, getD-take, take-all}
 use Rattle.detector.specs.Ewma.{blank}
@@ -16,8 +17,22 @@ use Rattle.table.specs.Table.{rowsOf, idOf}
 use Rattle.table.proofs.Laws.{map-take, chosen, passed}
 use Rattle.table.proofs.Columns.{Sound, past, pastSignal, length-rows, row-is, ids-are}
 use Rattle.frames.specs.declared.Multiplexor.{Multiplexor}
-use Rattle.frames.specs.Frames.{same, applies, selects, multiplexorOf, stepRow, nextOf}
+use Rattle.frames.specs.Frames.{same, sameKey, applies, selects, multiplexorOf, stepRow, nextOf}
 use Rattle.frames.proofs.Lists.{tally, tally-cons, tally-map}
+
+-- ---- one key or two
+types-same : (f g : Bool) → same f g ≡ true → f ≡ g
+types-same true true h = refl
+types-same true false h = sym h
+types-same false true h = h
+types-same false false h = refl
+
+pub key-is : (a : ℕ) (f : Bool) (b : ℕ) (g : Bool) → sameKey a f b g ≡ true → (a ≡ b) × (f ≡ g)
+key-is a f b g = go (eqb a b) refl
+  where
+    go : (t : Bool) → eqb a b ≡ t → pick t (same f g) false ≡ true → (a ≡ b) × (f ≡ g)
+    go true e h = (eqb-true a b e, types-same f g h)
+    go false e h = let z : _≡_ {A = ℕ} 0 1 = cc in absurd (omega arith)
 
 -- whether a row has the identifier
 abbrev pub named : ℕ → Entry → Bool

@@ -3,17 +3,18 @@
 use mathlib.Core.Path.{_≡_, refl, sym, ap, _∙_}
 use mathlib.Core.Bool.{Bool, true, false}
 use mathlib.Core.List.{List, [], _∷_, _++_, flatMap, append-nil}
-use Prim.Native.Nat.{ℕ, _+_, _≤_, _<_}
+use Prim.Native.Nat.{ℕ, _+_, _<_}
 use native.Mathlib.Omega.{arith}
 use lib.Dec.{ltb}
 use borrow.Author.Tests.{lt-ltb, ltb-true, ltb-false}
-use lib.ListN.{length, take, set, replicate, length-take}
+use lib.ListN.{length, take, set, replicate}
 use Rattle.table.specs.Rows.{pick, pad}
-use Rattle.table.proofs.Laws.{pad-nil, pushed, take-room, take-full, flat-append, flat-one}
+use Rattle.table.proofs.Laws.{chosen, pad-nil, pushed, take-room, take-full, flat-append, flat-one}
+use Rattle.frames.specs.declared.Outcome.{Outcome}
 use Rattle.frames.specs.declared.Report.{Report}
 use Rattle.frames.specs.declared.SignalAnomaly.{SignalAnomaly}
 use Rattle.frames.specs.declared.SignalIdsResult.{SignalIdsResult}
-use Rattle.frames.specs.Frames.{flagged, listed, blankAnomaly, blankReport, answered}
+use Rattle.frames.specs.Frames.{outcomeMeans, anomaly, flagged, listed, blankAnomaly, blankReport, answered}
 
 abbrev pub resultOf : List SignalAnomaly → ℕ → List Report → ℕ → SignalIdsResult
 resultOf anomalies c reports k = record { anomalies = anomalies; «anomaly_count» = c; reports = reports; «report_count» = k }
@@ -24,6 +25,10 @@ four p q t u = cc
 pub blank-is : (a : SignalAnomaly) (r : Report) → a ≡ blankAnomaly → r ≡ blankReport → resultOf (replicate 8 a) 0 (replicate 64 r) 0 ≡ answered []
 unfolding flatMap
 blank-is a r p q = four (ap (replicate 8) p ∙ pad-nil 8 blankAnomaly) refl (ap (replicate 64) q ∙ pad-nil 64 blankReport) refl
+
+-- where there is room, a report's anomaly is its outcome's
+pub raises : (r : Report) (k : ℕ) {o : Outcome} → k < 8 → r .outcome ≡ o → pick (ltb k 8) (flagged r) [] ≡ anomaly (r .slot) (outcomeMeans o)
+raises r k h e = chosen _ _ refl (lt-ltb k 8 h) ∙ ap (λ (q : Outcome). anomaly (r .slot) (outcomeMeans q)) e
 
 -- ---- a report has at most one anomaly
 flagged-more : (l : List Report) (r : Report) → flatMap flagged (l ++ (r ∷ [])) ≡ flatMap flagged l ++ flagged r

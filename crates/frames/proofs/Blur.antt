@@ -2,12 +2,10 @@
 -- key's frame leaves it as it was.
 -- Assumes nothing.
 use mathlib.Core.Path.{_≡_, refl, sym, ap, _∙_}
-use mathlib.Core.Bool.{Bool, true, false, not}
+use mathlib.Core.Bool.{Bool, true, false}
 use mathlib.Core.List.{List, [], _∷_, map}
 use Prim.Native.Nat.{ℕ, _+_}
-use native.Mathlib.Omega.{arith}
 use lib.Dec.{eqb, ltb, leb}
-use borrow.Author.Tests.{eqb-true}
 use lib.ListN.{length, length-map, take}
 use Rattle.conversion.specs.declared.SignalDefinition.{SignalDefinition}
 use Rattle.detector.specs.declared.EwmaDetector.{EwmaDetector}
@@ -17,35 +15,15 @@ use Rattle.table.specs.Rows.{pick, keep, some, dropFirst, insertBehind}
 use Rattle.table.specs.Table.{Table, Told, accepted, refused, withRows, fault, faults, slotsOk, entryOf, below, has, without, added, appended, appendedAll, define′, remove′, batch′}
 use Rattle.table.specs.Calls.{TableCall, defines, batches, removes, told}
 use Rattle.frames.specs.declared.Multiplexor.{Multiplexor}
-use Rattle.frames.specs.Frames.{typed, applies, selects, numberOf, multiplexorOf, nextOf, advanced, reportOf, reports}
-use Rattle.frames.specs.Isolation.{sameKey}
-use Rattle.frames.proofs.Rows.{next-stays}
+use Rattle.frames.specs.Frames.{sameKey, applies, selects, numberOf, multiplexorOf, nextOf, advanced, reportOf, reports}
+use Rattle.frames.proofs.Rows.{key-is, next-stays}
 
--- ---- one key or two
-types-same : (f g : Bool) → pick f g (not g) ≡ true → f ≡ g
-types-same true true h = refl
-types-same true false h = sym h
-types-same false true h = h
-types-same false false h = refl
-
-pub key-is : (a : ℕ) (f : Bool) (b : ℕ) (g : Bool) → sameKey a f b g ≡ true → (a ≡ b) × (f ≡ g)
-unfolding sameKey
-key-is a f b g = go (eqb a b) refl
-  where
-    go : (t : Bool) → eqb a b ≡ t → pick t (pick f g (not g)) false ≡ true → (a ≡ b) × (f ≡ g)
-    go true e h = (eqb-true a b e, types-same f g h)
-    go false e h = let z : _≡_ {A = ℕ} 0 1 = cc in absurd (omega arith)
-
--- a row applies to a frame exactly if its key is the frame's
-pub applies-key : (id : ℕ) (x : Bool) (row : Entry) → applies id x row ≡ sameKey (row .id) (row .signal .definition .«is_extended») id x
-unfolding typed sameKey
-applies-key id x row = refl
-
+-- ---- two keys
 -- a row of another key's frame is none of the key's
 apart : (id : ℕ) (x : Bool) (i : ℕ) (f : Bool) (row : Entry) → sameKey i f id x ≡ false → applies i f row ≡ true → applies id x row ≡ false
 apart id x i f row n h =
-    let k = key-is (row .id) (row .signal .definition .«is_extended») i f (sym (applies-key i f row) ∙ h) in
-    applies-key id x row ∙ ap (λ (a : ℕ). sameKey a (row .signal .definition .«is_extended») id x) (k .0) ∙ ap (λ (g : Bool). sameKey i g id x) (k .1) ∙ n
+    let k = key-is (row .id) (row .signal .definition .«is_extended») i f h in
+    ap (λ (a : ℕ). sameKey a (row .signal .definition .«is_extended») id x) (k .0) ∙ ap (λ (g : Bool). sameKey i g id x) (k .1) ∙ n
 
 -- ---- what a map that keeps a test leaves
 module _ {ℓ} {A : Type ℓ} (g : A → A) (p : A → Bool) (same : (a : A) → p (g a) ≡ p a) where

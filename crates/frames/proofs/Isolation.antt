@@ -16,10 +16,11 @@ use Rattle.table.specs.Table.{Table, Told, accepted, refused, tableOf, live, wi
 use Rattle.table.specs.Calls.{told, left}
 use Rattle.table.proofs.Regular.{follows}
 use Rattle.frames.specs.declared.Report.{Report}
-use Rattle.frames.specs.Frames.{effectiveOf, payloadOf, applies, multiplexorOf, advanced, reports, answered}
-use Rattle.frames.specs.Isolation.{Call, tabled, framed, rawFramed, Said, gave, saw, Run, said, after, answers, ran, sameKey, concerns, answersTo, ofKey}
+use Rattle.frames.specs.Frames.{sameKey, effectiveOf, payloadOf, applies, multiplexorOf, advanced, reports, answered}
+use Rattle.frames.specs.Isolation.{Call, tabled, framed, rawFramed, Said, gave, saw, Run, said, after, answers, ran, concerns, answersTo, ofKey}
 use Rattle.frames.proofs.Theorems.{frame-table}
-use Rattle.frames.proofs.Blur.{key-is, blurred, blurTold, blurred-twice, told-blur, rows-other, advanced-blur, reports-blur, keep-blur}
+use Rattle.frames.proofs.Rows.{key-is}
+use Rattle.frames.proofs.Blur.{blurred, blurTold, blurred-twice, told-blur, rows-other, advanced-blur, reports-blur, keep-blur}
 use Rattle.frames.proofs.Runs.{runs-follow}
 
 module _ (id : ℕ) (x : Bool) where

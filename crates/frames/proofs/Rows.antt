@@ -6,6 +6,7 @@ use mathlib.Core.List.{List, [], _∷_, _++_, map}
 use Prim.Native.Nat.{ℕ, suc, _≤_, _<_}
 use native.Mathlib.Omega.{arith}
 use lib.Dec.{eqb}
+use borrow.Author.Tests.{eqb-true}
 use lib.ListN.{length, getD, take}
 use lib.Seq.{length-take-le, getD-take, take-all}
 use Rattle.detector.specs.Ewma.{blank}
@@ -16,8 +17,22 @@ use Rattle.table.specs.Table.{rowsOf, idOf}
 use Rattle.table.proofs.Laws.{map-take, chosen, passed}
 use Rattle.table.proofs.Columns.{Sound, past, pastSignal, length-rows, row-is, ids-are}
 use Rattle.frames.specs.declared.Multiplexor.{Multiplexor}
-use Rattle.frames.specs.Frames.{typed, applies, numberOf, multiplexorOf, stepRow, nextOf}
+use Rattle.frames.specs.Frames.{same, sameKey, applies, selects, multiplexorOf, stepRow, nextOf}
 use Rattle.frames.proofs.Lists.{tally, tally-cons, tally-map}
+
+-- ---- one key or two
+types-same : (f g : Bool) → same f g ≡ true → f ≡ g
+types-same true true h = refl
+types-same true false h = sym h
+types-same false true h = h
+types-same false false h = refl
+
+pub key-is : (a : ℕ) (f : Bool) (b : ℕ) (g : Bool) → sameKey a f b g ≡ true → (a ≡ b) × (f ≡ g)
+key-is a f b g = go (eqb a b) refl
+  where
+    go : (t : Bool) → eqb a b ≡ t → pick t (same f g) false ≡ true → (a ≡ b) × (f ≡ g)
+    go true e h = (eqb-true a b e, types-same f g h)
+    go false e h = let z : _≡_ {A = ℕ} 0 1 = cc in absurd (omega arith)
 
 -- whether a row has the identifier
 abbrev pub named : ℕ → Entry → Bool
@@ -30,13 +45,16 @@ read e i = record { id = getD (e .ids) i 0; signal = getD (e .signals) i pastSig
 -- ---- which rows apply
 module _ (id : ℕ) (x : Bool) (row : Entry) where
   pub not-named : eqb (row .id) id ≡ false → applies id x row ≡ false
-  not-named h = ap (λ (b : Bool). pick b (typed x (row .signal .definition)) false) h
+  not-named h = ap (λ (b : Bool). pick b (same (row .signal .definition .«is_extended») x) false) h
 
-  pub not-typed : eqb (row .id) id ≡ true → typed x (row .signal .definition) ≡ false → applies id x row ≡ false
-  not-typed h k = ap (λ (b : Bool). pick b (typed x (row .signal .definition)) false) h ∙ k
+  pub not-typed : eqb (row .id) id ≡ true → same (row .signal .definition .«is_extended») x ≡ false → applies id x row ≡ false
+  not-typed h k = ap (λ (b : Bool). pick b (same (row .signal .definition .«is_extended») x) false) h ∙ k
 
-  pub both-same : eqb (row .id) id ≡ true → typed x (row .signal .definition) ≡ true → applies id x row ≡ true
-  both-same h k = ap (λ (b : Bool). pick b (typed x (row .signal .definition)) false) h ∙ k
+  pub both-same : eqb (row .id) id ≡ true → same (row .signal .definition .«is_extended») x ≡ true → applies id x row ≡ true
+  both-same h k = ap (λ (b : Bool). pick b (same (row .signal .definition .«is_extended») x) false) h ∙ k
+
+  pub not-selecting : eqb (row .id) id ≡ false → selects id x row ≡ false
+  not-selecting h = passed _ _ refl (not-named h)
 
 module _ (id : ℕ) (x : Bool) (s : List ℕ) (len : ℕ) where
   -- a row that doesn't apply stays
@@ -66,11 +84,7 @@ module _ (id : ℕ) (x : Bool) (s : List ℕ) (len : ℕ) where
   none-selects [] r h = refl
   none-selects (row ∷ l) r h =
       let a = absent row l h in
-      ap
-      (λ (b : Bool).
-      pick (pick b (row .signal .definition .«is_multiplexor») false) (numberOf s len (row .signal .definition)) (multiplexorOf id x s len (l ++ r)))
-      (not-named id x row (a .0))
-      ∙ none-selects l r (a .1)
+      passed _ _ refl (not-selecting id x row (a .0)) ∙ none-selects l r (a .1)
 
 -- ---- what two loops go over: the first n rows of an engine, and a frame by its identifier, type, bytes and data length
 pub record Visit : Type 0 where

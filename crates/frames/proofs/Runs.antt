@@ -9,13 +9,13 @@ use Rattle.detector.specs.Answers.{Configured, configured, unconfigured}
 use Rattle.detector.specs.Ewma.{madeOf, idle}
 use Rattle.table.specs.declared.Defined.{Defined}
 use Rattle.table.specs.declared.SignalIdsEngine.{SignalIdsEngine}
-use Rattle.table.specs.Table.{Table, tableOf, engineOf, emptyTable, live, withRows, defined, newly, created}
+use Rattle.table.specs.Table.{tableOf, emptyTable, live, defined, newly, created}
 use Rattle.table.specs.Calls.{TableCall, defines, batches, removes, told}
 use Rattle.table.specs.Regular.{Regular}
 use Rattle.table.proofs.Columns.{table-engine}
 use Rattle.table.proofs.Regular.{follows, after-keeps, moves-keep, empty-regular}
 use Rattle.frames.specs.declared.Processed.{Processed}
-use Rattle.frames.specs.Frames.{effectiveOf, payloadOf, multiplexorOf, nextOf, advanced, processed, processedFrame}
+use Rattle.frames.specs.Frames.{effectiveOf, payloadOf, multiplexorOf, nextOf, processed, processedFrame}
 use Rattle.frames.specs.Isolation.{Call, tabled, framed, rawFramed, Said, gave, saw, Run, ended, defineRuns, batchRuns, removeRuns, frameRuns, rawFrameRuns, after, answers, ran}
 use Rattle.frames.proofs.Theorems.{frame-table}
 

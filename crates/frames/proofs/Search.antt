@@ -3,21 +3,22 @@
 use mathlib.Core.Path.{_≡_, refl, sym, ap, _∙_}
 use mathlib.Core.Bool.{Bool, true, false}
 use mathlib.Core.List.{List, _∷_}
-use Prim.Native.Nat.{ℕ, suc, _+_, _-_, _≤_, _<_, min}
+use Prim.Native.Nat.{ℕ, suc, _-_, _≤_, _<_, min}
 use native.Mathlib.Omega.{arith}
 use lib.Dec.{eqb}
-use lib.ListN.{length, getD, take, drop, length-take, take-append-drop, drop-of-length-le}
+use lib.ListN.{getD, take, drop, length-take, take-append-drop, drop-of-length-le}
 use lib.Seq.{drop-cons}
 use Rattle.table.specs.declared.Entry.{Entry}
 use Rattle.table.specs.Rows.{pick}
 use Rattle.table.specs.Table.{live}
-use Rattle.table.proofs.Laws.{length-keep}
+use Rattle.table.proofs.Laws.{length-keep, passed}
 use Rattle.table.proofs.Columns.{Sound, past, live-is}
 use Rattle.frames.specs.declared.Multiplexor.{Multiplexor}
 use Rattle.frames.specs.declared.Multiplexor.the-variants.{Missing}
-use Rattle.frames.specs.Frames.{typed, numberOf, numberOr, multiplexorOf}
+use Rattle.frames.specs.Frames.{same, numberOf, multiplexorOf}
+use Rattle.frames.specs.Parts.{numberOr}
 use Rattle.frames.proofs.Lists.{tally, front-hit, front-miss}
-use Rattle.frames.proofs.Rows.{named, read, not-named, none-selects, Visit, rows, long, row-read, rows-all, hits-are}
+use Rattle.frames.proofs.Rows.{named, read, not-selecting, none-selects, Visit, rows, long, row-read, rows-all, hits-are}
 
 -- ---- one row more in front
 module _ (id : ℕ) (x : Bool) (s : List ℕ) (len : ℕ) (row : Entry) (l : List Entry) where
@@ -32,11 +33,11 @@ module _ (id : ℕ) (x : Bool) (s : List ℕ) (len : ℕ) (row : Entry) (l : Lis
   unfolding numberOr
   mux-named {m} h e g =
       g
-      ∙ ap (λ (k : Multiplexor). pick (typed x (row .signal .definition)) (pick (row .signal .definition .«is_multiplexor») number k) k) e
-      ∙ at (typed x (row .signal .definition))
+      ∙ ap (λ (k : Multiplexor). pick (same (row .signal .definition .«is_extended») x) (pick (row .signal .definition .«is_multiplexor») number k) k) e
+      ∙ at (same (row .signal .definition .«is_extended») x)
       ∙ ap
       (λ (b : Bool).
-      pick (pick (pick b (typed x (row .signal .definition)) false) (row .signal .definition .«is_multiplexor») false) number (multiplexorOf id x s len l))
+      pick (pick (pick b (same (row .signal .definition .«is_extended») x) false) (row .signal .definition .«is_multiplexor») false) number (multiplexorOf id x s len l))
       (sym h)
     where
       at : (b : Bool)
@@ -46,12 +47,7 @@ module _ (id : ℕ) (x : Bool) (s : List ℕ) (len : ℕ) (row : Entry) (l : Lis
       at false = refl
 
   pub mux-other : {m : Multiplexor} → eqb (row .id) id ≡ false → m ≡ multiplexorOf id x s len l → m ≡ multiplexorOf id x s len (row ∷ l)
-  mux-other h e =
-      e
-      ∙ ap
-      (λ (b : Bool).
-      pick (pick b (row .signal .definition .«is_multiplexor») false) number (multiplexorOf id x s len l))
-      (sym (not-named id x row h))
+  mux-other h e = e ∙ sym (passed _ _ refl (not-selecting id x row h))
 
 -- ---- the loop: so many rows with the identifier stand before j, and the multiplexor of the rows from j on is known
 abbrev pub muxFrom : Visit → List Entry → Multiplexor

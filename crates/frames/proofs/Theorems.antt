@@ -5,9 +5,7 @@ use mathlib.Core.Bool.{Bool, true, false}
 use mathlib.Core.List.{List, [], _∷_, _++_, map, flatMap}
 use Prim.Native.Nat.{ℕ, zero, suc, _+_, _^_, _≤_, _<_, min}
 use native.Mathlib.Omega.{arith}
-use lib.Dec.{eqb, leb}
 use native.Mathlib.Nat.{lt-of-lt-of-le}
-use borrow.Author.Tests.{leb-true}
 use lib.Pow.{pow-mono}
 use lib.ListN.{length, take, drop, length-append, length-take, take-append-drop}
 use Rattle.bits.specs.Answers.{Answer}
@@ -21,10 +19,11 @@ use Rattle.table.specs.declared.Signal.{Signal}
 use Rattle.table.specs.declared.Entry.{Entry}
 use Rattle.table.specs.declared.SignalIdsEngine.{SignalIdsEngine}
 use Rattle.table.specs.Rows.{pick, keep, every}
-use Rattle.table.specs.Table.{Table, joined, rowsOf, live, detectorOf, tableOf, withRows, fault, lengthOk, scaleOk, idOk, muxOk, signOk}
-use Rattle.table.specs.Regular.{Proper}
-use Rattle.table.proofs.Laws.{chosen, map-take}
+use Rattle.table.specs.Table.{joined, rowsOf, live, detectorOf, tableOf, withRows, fault}
+use Rattle.table.specs.Regular.{Proper, Regular}
+use Rattle.table.proofs.Laws.{chosen, passed, map-take}
 use Rattle.table.proofs.Columns.{Sound, detectors-are}
+use Rattle.table.proofs.Theorems.{passing}
 use Rattle.frames.specs.declared.CanFrame.{CanFrame}
 use Rattle.frames.specs.declared.Multiplexor.{Multiplexor}
 use Rattle.frames.specs.declared.Multiplexor.the-variants.{Number}
@@ -32,12 +31,11 @@ use Rattle.frames.specs.declared.Outcome.{Outcome}
 use Rattle.frames.specs.declared.Outcome.the-variants.{PassedOver, NoValue, First, Warming, Scored}
 use Rattle.frames.specs.declared.Report.{Report}
 use Rattle.frames.specs.declared.Step.{Step}
-use Rattle.frames.specs.declared.SignalAnomaly.{SignalAnomaly}
 use Rattle.frames.specs.declared.Processed.{Processed}
-use Rattle.frames.specs.Frames.{applies, numbered, numberOf, multiplexorOf, meets, sampled, stepRow, nextOf, advanced, reportOf, reports, Finding, passedOver, noValue, firstSample, warmingUp, scored, outcomeMeans, isFlagged, flags, anomaly, flagged, listed, answered, moved, processed, processedFrame}
+use Rattle.frames.specs.Frames.{payloadOf, effectiveOf, applies, numbered, numberOf, multiplexorOf, meets, sampled, stepRow, nextOf, advanced, reportOf, reports, Finding, passedOver, noValue, firstSample, warmingUp, scored, outcomeMeans, isFlagged, flags, anomaly, flagged, answered, moved, processed, processedFrame}
 use Rattle.frames.proofs.Steps.{step-sampled}
 use Rattle.frames.proofs.Lists.{tally-cons}
-use Rattle.frames.proofs.Rows.{next-stays}
+use Rattle.frames.proofs.Rows.{key-is, next-stays}
 use Rattle.frames.proofs.Moves.{withDetectors}
 
 -- ---- a promise determines its answer: two results that it allows are equal
@@ -46,6 +44,12 @@ frame-determined e f r q h k = h ∙ sym k
 
 pub raw-frame-determined : (e : SignalIdsEngine) (id : ℕ) (s : List ℕ) (n : ℕ) (r q : Processed) → r ≡ processed e id false s n → q ≡ processed e id false s n → r ≡ q
 raw-frame-determined e id s n r q h k = h ∙ sym k
+
+pub payload-len-determined : (f : CanFrame) (r q : ℕ) → r ≡ payloadOf f → q ≡ payloadOf f → r ≡ q
+payload-len-determined f r q h k = h ∙ sym k
+
+pub effective-can-id-determined : (f : CanFrame) (r q : ℕ) → r ≡ effectiveOf f → q ≡ effectiveOf f → r ≡ q
+effective-can-id-determined f r q h k = h ∙ sym k
 
 -- ---- an outcome's meaning tells the five cases and their values apart
 outcomeFor : Finding → Outcome
@@ -181,20 +185,6 @@ nothing-applies e good id x s n h =
     ∙ ap (λ (q : SignalIdsEngine). (record { engine = q; result = answered [] })) same
 
 -- ---- the multiplexor's number fits 16 bits in every table that calls make
-mux-within : (d : SignalDefinition) → d .«is_multiplexor» ≡ true → muxOk d ≡ true → d .«bit_length» ≤ 16
-unfolding muxOk
-mux-within d f k = leb-true (d .«bit_length») 16 (ap (λ (b : Bool). pick b (leb (d .«bit_length») 16) true) (sym f) ∙ k)
-
-mux-short : (d : SignalDefinition) → fault d ≡ 0 → d .«is_multiplexor» ≡ true → d .«bit_length» ≤ 16
-mux-short d h f = go (lengthOk d) (scaleOk d) (idOk d) (muxOk d) refl h
-  where
-    go : (a b c m : Bool) → muxOk d ≡ m → _≡_ {A = ℕ} (pick a (pick b (pick c (pick m (pick (signOk d) 0 3) 3) 3) 3) 2) 0 → d .«bit_length» ≤ 16
-    go true true true true e k = mux-within d f e
-    go true true true false e k = absurd (omega arith)
-    go true true false m e k = absurd (omega arith)
-    go true false c m e k = absurd (omega arith)
-    go false b c m e k = absurd (omega arith)
-
 number-below : (s : List ℕ) (n : ℕ) (d : SignalDefinition) (k : ℕ) → fault d ≡ 0 → d .«is_multiplexor» ≡ true → numberOf s n d ≡ Number k → k < 65536
 unfolding rawSignal
 number-below s n d k h f = go (rawSignal s n d) refl
@@ -203,13 +193,13 @@ number-below s n d k h f = go (rawSignal s n d) refl
     go (value v) e q =
         let same : v ≡ k = cc in
         let less = told s n (d .«byte_order») (d .«start_bit») (d .«bit_length») v e .less in
-        lt-of-lt-of-le (subst (λ (j : ℕ). j < 2 ^ d .«bit_length») same less) (pow-mono {j = 16} (mux-short d h f))
+        lt-of-lt-of-le (subst (λ (j : ℕ). j < 2 ^ d .«bit_length») same less) (pow-mono {j = 16} (passing d h .multiplexor f))
     go (refused r) e q = let z : _≡_ {A = ℕ} 0 1 = cc in absurd (omega arith)
 
-pub number-fits : (id : ℕ) (x : Bool) (s : List ℕ) (n next : ℕ) (l : List Entry) → every (Proper next) l → (k : ℕ) → multiplexorOf id x s n l ≡ Number k → k < 65536
-number-fits id x s n next [] p k h = let z : _≡_ {A = ℕ} 0 1 = cc in absurd (omega arith)
-number-fits id x s n next (row ∷ l) p k h =
-    go (number-fits id x s n next l (p .1) k) (applies id x row) (row .signal .definition .«is_multiplexor») refl h
+numbers-fit : (id : ℕ) (x : Bool) (s : List ℕ) (n next : ℕ) (l : List Entry) → every (Proper next) l → (k : ℕ) → multiplexorOf id x s n l ≡ Number k → k < 65536
+numbers-fit id x s n next [] p k h = let z : _≡_ {A = ℕ} 0 1 = cc in absurd (omega arith)
+numbers-fit id x s n next (row ∷ l) p k h =
+    go (numbers-fit id x s n next l (p .1) k) (applies id x row) (row .signal .definition .«is_multiplexor») refl h
   where
     go : (multiplexorOf id x s n l ≡ Number k → k < 65536)
         → (a b : Bool)
@@ -219,3 +209,20 @@ number-fits id x s n next (row ∷ l) p k h =
     go rest true true f q = number-below s n (row .signal .definition) k (p .0 .passes) f q
     go rest true false f q = rest q
     go rest false b f q = rest q
+
+pub number-fits : (e : SignalIdsEngine) → Regular (tableOf e) → (id : ℕ) (x : Bool) (s : List ℕ) (n k : ℕ) → multiplexorOf id x s n (live e) ≡ Number k → k < 65536
+number-fits e g id x s n k h = numbers-fit id x s n (e .«next_slot») (live e) (g .proper) k h
+
+-- ---- a raw identifier above 0x7FF has no report in any table that calls make
+none-above : (id : ℕ) → 0x7FF < id → (next : ℕ) (l : List Entry) → every (Proper next) l → keep (applies id false) l ≡ []
+none-above id h next [] p = refl
+none-above id h next (row ∷ l) p = go (none-above id h next l (p .1)) (applies id false row) refl
+  where
+    go : keep (applies id false) l ≡ [] → (b : Bool) → applies id false row ≡ b → pick (applies id false row) (row ∷ keep (applies id false) l) (keep (applies id false) l) ≡ []
+    go rest true e =
+        let k = key-is (row .id) (row .signal .definition .«is_extended») id false e in
+        absurd (omega (arith, k .0, p .0 .id-is, passing (row .signal .definition) (p .0 .passes) .standard (k .1)))
+    go rest false e = passed _ _ refl e ∙ rest
+
+pub raw-above : (e : SignalIdsEngine) → Regular (tableOf e) → (id : ℕ) → 0x7FF < id → (s : List ℕ) (n : ℕ) → reports id false s n (live e) ≡ []
+raw-above e g id h s n = ap (map (reportOf s n (multiplexorOf id false s n (live e)))) (none-above id h (e .«next_slot») (live e) (g .proper))

@@ -2,10 +2,9 @@
 -- Here stand the calls, a run of compiled calls, and what of it concerns a key, which is an effective identifier with a frame type (document 01, "One frame").
 -- Assumes nothing.
 use mathlib.Core.Path.{_≡_}
-use mathlib.Core.Bool.{Bool, true, false, not}
+use mathlib.Core.Bool.{Bool, true, false}
 use mathlib.Core.List.{List, [], _∷_}
 use Prim.Native.Nat.{ℕ}
-use lib.Dec.{eqb}
 use Rattle.conversion.specs.declared.SignalDefinition.{SignalDefinition}
 use Rattle.table.specs.declared.Answer.{Answer}
 use Rattle.table.specs.declared.Defined.{Defined}
@@ -17,7 +16,7 @@ use Rattle.table.specs.Calls.{TableCall, defines, batches, removes, told}
 use Rattle.frames.specs.declared.CanFrame.{CanFrame}
 use Rattle.frames.specs.declared.SignalIdsResult.{SignalIdsResult}
 use Rattle.frames.specs.declared.Processed.{Processed}
-use Rattle.frames.specs.Frames.{effectiveOf, applies, processed, processedFrame}
+use Rattle.frames.specs.Frames.{sameKey, effectiveOf, applies, processed, processedFrame}
 
 -- a call with its arguments: one on the table, a frame, or a raw frame by identifier, bytes and data length
 pub data Call : Type 0 where
@@ -75,9 +74,6 @@ ran e [] = e
 ran e (c ∷ cs) = ran (after e c) cs
 
 -- ---- a key
-unfoldable pub sameKey : ℕ → Bool → ℕ → Bool → Bool
-sameKey a f b g = pick (eqb a b) (pick f g (not g)) false
-
 -- every table call concerns the key, and of the frames its own: for a raw frame the unmasked identifier with the standard type
 abbrev pub concerns : ℕ → Bool → Call → Bool
 concerns id extended (tabled c) = true

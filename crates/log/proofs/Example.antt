@@ -44,7 +44,7 @@ not-first = refl
 
 pub example : output (settings ++ definition ++ frame 0 ++ frame 0 ++ frame 0 ++ frame 0 ++ frame 0 ++ frame 1)
     ≡ ascii "D 2 slot 0\nF 8 slot 0 z 5F000000 value 3F800000\nend 8 0\n"
-unfolding run stepOf itemOf startOf markOf settingsOf defineOf frameOf badFlags orderOf conditionOf dec hex8 createdBy definedBy processedBy flatMap frames.effectiveOf frames.typed frames.meets frames.stepOf frames.blankAnomaly frames.blankReport pad blankSignal lengthOk scaleOk idOk muxOk signOk allowed madeOf updated folded held settled scoreOf scoreAt flooredVariance floorOf sqrtApprox rawSignal signalOf value ofBits toBits ofInt add sub mul div neg lt le eq
+unfolding run stepOf itemOf startOf markOf settingsOf defineOf frameOf badFlags orderOf conditionOf dec hex8 createdBy definedBy processedBy flatMap frames.effectiveOf frames.meets frames.stepOf frames.blankAnomaly frames.blankReport pad blankSignal lengthOk scaleOk idOk muxOk signOk allowed madeOf updated folded held settled scoreOf scoreAt flooredVariance floorOf sqrtApprox rawSignal signalOf value ofBits toBits ofInt add sub mul div neg lt le eq
 example = refl
 
 -- after the last record that is counted: the end, or 15 for whatever bytes follow

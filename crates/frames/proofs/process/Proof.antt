@@ -1,4 +1,4 @@
-use mathlib.Core.Path.{_≡_, refl, sym, ap, _∙_}
+use mathlib.Core.Path.{sym, ap, _∙_}
 use mathlib.Core.Bool.{Bool}
 use mathlib.Core.List.{List}
 use Prim.Native.Nat.{ℕ, _<_, _-_}
@@ -9,7 +9,7 @@ use denote.Ref.{now}
 use lib.ListN.{length-map}
 use Rattle.table.specs.declared.SignalIdsEngine.{SignalIdsEngine}
 use Rattle.table.proofs.Columns.{Sound}
-use Rattle.frames.specs.Frames.{raisedOf}
+use Rattle.frames.specs.Parts.{raisedOf}
 use Rattle.frames.proofs.Answers.{room}
 use Rattle.frames.proofs.Rows.{Visit}
 use Rattle.frames.proofs.Search.{Searching, search-begins, search-named, search-other, search-ends}
@@ -110,7 +110,7 @@ loop-again c =
     let start = c .before .before .before .before .before .before .before .before .before .before .before .before .before in
     let a = start .args in
     let v : Visit = visit (a .t1) (c .before .before .before .before .before .before .before .before .before .before .clamp .result) (a .id) (a .extended) (now (a .bytes)) (a .data-len) in
-    search-named v (sound start) (c .before .before .before .before .before .loop .inv) (c .before .before .before .before .loop-test .taken) (eq-eqb _ _ (c .before .before .if1 .taken)) (c .selected .ensures)
+    search-named v (sound start) (c .before .before .before .before .before .loop .inv) (omega (arith, c .before .before .before .before .loop-test .taken)) (eq-eqb _ _ (c .before .before .if1 .taken)) (c .selected .ensures)
 
 -- src/lib.rt:298:5
 loop-less-2 : tie.Need-loop-less-2 Inv-loop μ-loop Inv-loop2 μ-loop2
@@ -122,7 +122,7 @@ loop-again-2 c =
     let start = c .before .before .before .before .before .before .before .before .before .before .before in
     let a = start .args in
     let v : Visit = visit (a .t1) (c .before .before .before .before .before .before .before .before .clamp .result) (a .id) (a .extended) (now (a .bytes)) (a .data-len) in
-    search-other v (sound start) (c .before .before .before .loop .inv) (c .before .before .loop-test .taken) (ne-eqb _ _ (c .if1 .left))
+    search-other v (sound start) (c .before .before .before .loop .inv) (omega (arith, c .before .before .loop-test .taken)) (ne-eqb _ _ (c .if1 .left))
 
 -- src/lib.rt:308:5
 loop2-holds : tie.Need-loop2-holds Inv-loop μ-loop Inv-loop2 μ-loop2
@@ -154,7 +154,7 @@ loop2-again c =
     let start = c .before .before .before .before .before .before .before .before .before .before .before .before .before in
     let a = start .args in
     let v : Visit = visit (a .t1) (c .before .before .before .before .before .before .before .before .before .before .clamp .result) (a .id) (a .extended) (now (a .bytes)) (a .data-len) in
-    other-id v (sound start) (c .before .before .before .before .before .loop .m) (c .before .before .before .loop2 .inv) (c .before .before .loop2-test .taken) (ne-eqb _ _ (c .if2 .taken))
+    other-id v (sound start) (c .before .before .before .before .before .loop .m) (c .before .before .before .loop2 .inv) (omega (arith, c .before .before .loop2-test .taken)) (ne-eqb _ _ (c .if2 .taken))
 
 -- src/lib.rt:314:9
 sub-left : tie.Need-sub-left Inv-loop μ-loop Inv-loop2 μ-loop2
@@ -182,7 +182,7 @@ loop2-again-2 c =
     let start = c .before .before .before .before .before .before .before .before .before .before .before .before .before .before .before .before in
     let a = start .args in
     let v : Visit = visit (a .t1) (c .before .before .before .before .before .before .before .before .before .before .before .before .before .clamp .result) (a .id) (a .extended) (now (a .bytes)) (a .data-len) in
-    other-type v (sound start) (c .before .before .before .before .before .before .before .before .loop .m) (c .before .before .before .before .before .before .loop2 .inv) (c .before .before .before .before .before .loop2-test .taken) (eq-eqb _ _ (c .before .before .before .if2 .left)) (sym (c .before .is-typed .ensures) ∙ not-true _ (c .if3 .taken))
+    other-type v (sound start) (c .before .before .before .before .before .before .before .before .loop .m) (c .before .before .before .before .before .before .loop2 .inv) (omega (arith, c .before .before .before .before .before .loop2-test .taken)) (eq-eqb _ _ (c .before .before .before .if2 .left)) (sym (c .before .is-typed .ensures) ∙ not-true _ (c .if3 .taken))
 
 -- src/lib.rt:319:24
 mul-detector : tie.Need-mul-detector Inv-loop μ-loop Inv-loop2 μ-loop2
@@ -268,7 +268,7 @@ loop2-again-3 c =
     let start = c .before .before .before .before .before .before .before .before .before .before .before .before .before .before .before .before .before .before .before .before .before .before .before .before in
     let a = start .args in
     let v : Visit = visit (a .t1) (c .before .before .before .before .before .before .before .before .before .before .before .before .before .before .before .before .before .before .before .before .before .clamp .result) (a .id) (a .extended) (now (a .bytes)) (a .data-len) in
-    moves-listed v (sound start) (c .before .before .before .before .before .before .before .before .before .before .before .before .before .before .before .before .loop .m) (c .before .before .before .before .before .before .before .before .before .before .before .before .before .before .loop2 .inv) (c .before .before .before .before .before .before .before .before .before .before .before .before .before .loop2-test .taken) (c .before .before .before .before .before .before .stepped .result) (c .before .before .before .before .report-of .result) (eq-eqb _ _ (c .before .before .before .before .before .before .before .before .before .before .before .if2 .left)) (sym (c .before .before .before .before .before .before .before .before .before .is-typed .ensures) ∙ not-false _ (c .before .before .before .before .before .before .before .before .if3 .left)) (c .before .before .before .before .before .before .stepped .ensures) (c .before .before .before .before .report-of .ensures) (c .before .anomaly .given .0 .0) (ap raisedOf (sym (c .before .anomaly .given .1)) ∙ c .before .before .before .raised .ensures)
+    moves-listed v (sound start) (c .before .before .before .before .before .before .before .before .before .before .before .before .before .before .before .before .loop .m) (c .before .before .before .before .before .before .before .before .before .before .before .before .before .before .loop2 .inv) (omega (arith, c .before .before .before .before .before .before .before .before .before .before .before .before .before .loop2-test .taken)) (c .before .before .before .before .before .before .stepped .result) (c .before .before .before .before .report-of .result) (eq-eqb _ _ (c .before .before .before .before .before .before .before .before .before .before .before .if2 .left)) (sym (c .before .before .before .before .before .before .before .before .before .is-typed .ensures) ∙ not-false _ (c .before .before .before .before .before .before .before .before .if3 .left)) (c .before .before .before .before .before .before .stepped .ensures) (c .before .before .before .before .report-of .ensures) (c .before .anomaly .given .0 .0) (ap raisedOf (sym (c .before .anomaly .given .1)) ∙ c .before .before .before .raised .ensures)
 
 enum-told : tie.Need-enum-told Inv-loop μ-loop Inv-loop2 μ-loop2
 enum-told c = search needs
@@ -283,7 +283,7 @@ loop2-again-4 c =
     let start = c .before .before .before .before .before .before .before .before .before .before .before .before .before .before .before .before .before .before .before .before .before .before .before in
     let a = start .args in
     let v : Visit = visit (a .t1) (c .before .before .before .before .before .before .before .before .before .before .before .before .before .before .before .before .before .before .before .before .clamp .result) (a .id) (a .extended) (now (a .bytes)) (a .data-len) in
-    moves-quiet v (sound start) (c .before .before .before .before .before .before .before .before .before .before .before .before .before .before .before .loop .m) (c .before .before .before .before .before .before .before .before .before .before .before .before .before .loop2 .inv) (c .before .before .before .before .before .before .before .before .before .before .before .before .loop2-test .taken) (c .before .before .before .before .before .stepped .result) (c .before .before .before .report-of .result) (eq-eqb _ _ (c .before .before .before .before .before .before .before .before .before .before .if2 .left)) (sym (c .before .before .before .before .before .before .before .before .is-typed .ensures) ∙ not-false _ (c .before .before .before .before .before .before .before .if3 .left)) (c .before .before .before .before .before .stepped .ensures) (c .before .before .before .report-of .ensures) (ap raisedOf (sym (c .enum-told .given .1)) ∙ c .before .before .raised .ensures)
+    moves-quiet v (sound start) (c .before .before .before .before .before .before .before .before .before .before .before .before .before .before .before .loop .m) (c .before .before .before .before .before .before .before .before .before .before .before .before .before .loop2 .inv) (omega (arith, c .before .before .before .before .before .before .before .before .before .before .before .before .loop2-test .taken)) (c .before .before .before .before .before .stepped .result) (c .before .before .before .report-of .result) (eq-eqb _ _ (c .before .before .before .before .before .before .before .before .before .before .if2 .left)) (sym (c .before .before .before .before .before .before .before .before .is-typed .ensures) ∙ not-false _ (c .before .before .before .before .before .before .before .if3 .left)) (c .before .before .before .before .before .stepped .ensures) (c .before .before .before .report-of .ensures) (ap raisedOf (sym (c .enum-told .given .1)) ∙ c .before .before .raised .ensures)
 
 -- src/lib.rt:283:1
 returns : tie.Need-returns Inv-loop μ-loop Inv-loop2 μ-loop2

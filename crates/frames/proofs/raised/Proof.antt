@@ -1,8 +1,7 @@
-use mathlib.Core.Path.{_≡_, refl, sym, ap, _∙_}
-use borrow.Author.Tests.{lt-ltb, le-ltb}
+use mathlib.Core.Path.{refl, sym, _∙_}
+use borrow.Author.Tests.{le-ltb}
 use Rattle.table.proofs.Laws.{chosen, passed}
-use Rattle.frames.specs.declared.Outcome.{Outcome}
-use Rattle.frames.specs.Frames.{anomaly, outcomeMeans}
+use Rattle.frames.proofs.Answers.{raises}
 use borrow.Author.Needs.{needs}
 use Rattle.frames.proofs.raised.Statement.{statement}
 use Rattle.frames.proofs.raised.Tie as tie
@@ -35,39 +34,27 @@ enum-known-outcome c = search needs
 
 -- src/lib.rt:207:1
 returns-2 : tie.Need-returns-2
-returns-2 c =
-    let r = c .before .before .before .args .report in
-    sym (chosen _ _ refl (lt-ltb _ _ (c .before .before .if1 .left)) ∙ ap (λ (o : Outcome). anomaly (r .slot) (outcomeMeans o)) (c .enum-told .given .1))
+returns-2 c = sym (raises (c .before .before .before .args .report) (c .before .before .before .args .listed) (c .before .before .if1 .left) (c .enum-told .given .1))
 
 -- src/lib.rt:207:1
 returns-3 : tie.Need-returns-3
-returns-3 c =
-    let r = c .before .before .before .args .report in
-    sym (chosen _ _ refl (lt-ltb _ _ (c .before .before .if1 .left)) ∙ ap (λ (o : Outcome). anomaly (r .slot) (outcomeMeans o)) (c .enum-told2 .given .1))
+returns-3 c = sym (raises (c .before .before .before .args .report) (c .before .before .before .args .listed) (c .before .before .if1 .left) (c .enum-told2 .given .1))
 
 -- src/lib.rt:207:1
 returns-4 : tie.Need-returns-4
-returns-4 c =
-    let r = c .before .before .before .args .report in
-    sym (chosen _ _ refl (lt-ltb _ _ (c .before .before .if1 .left)) ∙ ap (λ (o : Outcome). anomaly (r .slot) (outcomeMeans o)) (c .enum-told3 .given .1))
+returns-4 c = sym (raises (c .before .before .before .args .report) (c .before .before .before .args .listed) (c .before .before .if1 .left) (c .enum-told3 .given .1))
 
 -- src/lib.rt:207:1
 returns-5 : tie.Need-returns-5
-returns-5 c =
-    let r = c .before .before .before .args .report in
-    sym (chosen _ _ refl (lt-ltb _ _ (c .before .before .if1 .left)) ∙ ap (λ (o : Outcome). anomaly (r .slot) (outcomeMeans o)) (c .enum-told4 .given .1))
+returns-5 c = sym (raises (c .before .before .before .args .report) (c .before .before .before .args .listed) (c .before .before .if1 .left) (c .enum-told4 .given .1))
 
 -- src/lib.rt:207:1
 returns-6 : tie.Need-returns-6
-returns-6 c =
-    let r = c .before .before .before .before .before .args .report in
-    sym (chosen _ _ refl (lt-ltb _ _ (c .before .before .before .before .if1 .left)) ∙ ap (λ (o : Outcome). anomaly (r .slot) (outcomeMeans o)) (c .before .before .outcome .given .1) ∙ chosen _ _ refl (c .if2 .taken))
+returns-6 c = sym (raises (c .before .before .before .before .before .args .report) (c .before .before .before .before .before .args .listed) (c .before .before .before .before .if1 .left) (c .before .before .outcome .given .1) ∙ chosen _ _ refl (c .if2 .taken))
 
 -- src/lib.rt:207:1
 returns-7 : tie.Need-returns-7
-returns-7 c =
-    let r = c .before .before .before .before .before .args .report in
-    sym (chosen _ _ refl (lt-ltb _ _ (c .before .before .before .before .if1 .left)) ∙ ap (λ (o : Outcome). anomaly (r .slot) (outcomeMeans o)) (c .before .before .outcome .given .1) ∙ passed _ _ refl (c .if2 .left))
+returns-7 c = sym (raises (c .before .before .before .before .before .args .report) (c .before .before .before .before .before .args .listed) (c .before .before .before .before .if1 .left) (c .before .before .outcome .given .1) ∙ passed _ _ refl (c .if2 .left))
 
 pub raised-spec : {M : Type 1} → statement M
 raised-spec =

@@ -102,7 +102,7 @@ fn put_field(out: &mut [u8], at: usize, word: &[u8], x: f32) -> usize
 }
 
 // The line of a table call, whose letter is D or R.
-pub fn put_answer(out: &mut [u8], at: usize, letter: &[u8], n: u32, answer: Answer) -> usize
+pub(crate) fn put_answer(out: &mut [u8], at: usize, letter: &[u8], n: u32, answer: Answer) -> usize
     requires { ⌜ at + length (now letter) + 30 ≤ length (now out) ⌝ }
     ensures { λ r. ⌜ Put (now (out .entry)) at (answerLine (now (letter .entry)) n answer) r (now (out .exit)) ⌝ }
 {
@@ -118,7 +118,7 @@ pub fn put_answer(out: &mut [u8], at: usize, letter: &[u8], n: u32, answer: Answ
 }
 
 // The end line: the number of sound records, and the stopping number.
-pub fn put_end(out: &mut [u8], at: usize, n: u32, k: u8) -> usize
+pub(crate) fn put_end(out: &mut [u8], at: usize, n: u32, k: u8) -> usize
     requires { ⌜ at + 26 ≤ length (now out) ⌝ }
     ensures { λ r. ⌜ Put (now (out .entry)) at (endLine n k) r (now (out .exit)) ⌝ }
 {
@@ -136,7 +136,7 @@ fn put_anomaly(out: &mut [u8], at: usize, n: u32, x: SignalAnomaly) -> usize
 }
 
 // A line for each of the first `count` anomalies.
-pub fn put_anomalies(
+pub(crate) fn put_anomalies(
     out: &mut [u8],
     at: usize,
     n: u32,

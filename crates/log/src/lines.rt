@@ -2,10 +2,26 @@
 ghost use mathlib.Core.Path.{_≡_};
 ghost use Prim.Native.Nat.{_+_, _<_, _≤_, _*_};
 ghost use lib.ListN.{length, take};
-ghost use Rattle.log.specs.Lines.{Put, upper, hex8, decimal, numbers, line, field, answerLine, anomalyLine, anomalyLines, endLine};
+ghost use Rattle.log.specs.Lines.{Put, upper, hex8, decimal, numbers, line, field, answerLine, anomalyLine, anomalyLines, endLine, textOf};
+ghost use Rattle.log.specs.Lines.{renderedOf, bufferOf};
 use conversion::bits_of_f32;
 use frames::SignalAnomaly;
 use table::Answer;
+
+// A line of the output, each with its record's number but the end line, which has the number of sound records.
+pub enum LogLine {
+    Defined(u32, Answer),
+    Removed(u32, Answer),
+    Anomaly(u32, SignalAnomaly),
+    End(u32, u8),
+}
+
+pub enum Rendered {
+    // so many bytes were written
+    Length(usize),
+    // the buffer is shorter than a line may be, and is as it was
+    NoRoom,
+}
 
 fn put(out: &mut [u8], at: usize, text: &[u8]) -> usize
     requires { ⌜ at + length (now text) ≤ length (now out) ⌝ }
@@ -154,4 +170,27 @@ pub(crate) fn put_anomalies(
         i += 1;
     }
     end
+}
+
+fn put_text(out: &mut [u8], at: usize, text: LogLine) -> usize
+    requires { ⌜ at + 55 ≤ length (now out) ⌝ }
+    ensures { λ r. ⌜ Put (now (out .entry)) at (textOf text) r (now (out .exit)) ⌝ }
+{
+    match text {
+        LogLine::Defined(n, answer) => put_answer(out, at, b"D ", n, answer),
+        LogLine::Removed(n, answer) => put_answer(out, at, b"R ", n, answer),
+        LogLine::Anomaly(n, x) => put_anomaly(out, at, n, x),
+        LogLine::End(n, k) => put_end(out, at, n, k),
+    }
+}
+
+// The line at the front of the buffer, which has to have 55 bytes: no line is longer.
+pub fn render(text: LogLine, out: &mut [u8]) -> Rendered
+    ensures { λ r. ⌜ r ≡ renderedOf (length (now (out .entry))) text ⌝ }
+    ensures { λ _. ⌜ now (out .exit) ≡ bufferOf (now (out .entry)) text ⌝ }
+{
+    if out.len() < 55 {
+        return Rendered::NoRoom;
+    }
+    Rendered::Length(put_text(out, 0, text))
 }

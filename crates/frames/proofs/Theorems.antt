@@ -1,32 +1,44 @@
 -- What document 01, "One frame", says of every frame, as theorems about the definitions that the promises cite.
 -- Assumes nothing.
-use mathlib.Core.Path.{_≡_, refl, sym, ap, _∙_}
+use mathlib.Core.Path.{_≡_, refl, sym, ap, _∙_, subst}
 use mathlib.Core.Bool.{Bool, true, false}
 use mathlib.Core.List.{List, [], _∷_, _++_, map, flatMap}
 use Prim.Native.Nat.{ℕ, zero, suc, _+_, _^_, _≤_, _<_, min}
 use native.Mathlib.Omega.{arith}
 use lib.Dec.{eqb, leb}
-use lib.ListN.{length, take, drop, length-append, length-map, length-take}
-use Rattle.conversion.specs.Extract.{measured, signalOf}
+use native.Mathlib.Nat.{lt-of-lt-of-le}
+use borrow.Author.Tests.{leb-true}
+use lib.Pow.{pow-mono}
+use lib.ListN.{length, take, drop, length-append, length-take, take-append-drop}
+use Rattle.bits.specs.Answers.{Answer}
+use Rattle.bits.specs.Answers.Answer.{value, refused}
+use Rattle.bits.proofs.Theorems.{told}
+use Rattle.conversion.specs.declared.SignalDefinition.{SignalDefinition}
+use Rattle.conversion.specs.Extract.{measured, rawSignal, signalOf}
 use Rattle.detector.specs.declared.EwmaDetector.{EwmaDetector}
 use Rattle.detector.specs.Ewma.{updated}
 use Rattle.table.specs.declared.Signal.{Signal}
 use Rattle.table.specs.declared.Entry.{Entry}
 use Rattle.table.specs.declared.SignalIdsEngine.{SignalIdsEngine}
-use Rattle.table.specs.Rows.{pick, keep}
-use Rattle.table.specs.Table.{Table, joined, live, idOf, detectorOf, tableOf, withRows}
-use Rattle.table.proofs.Laws.{chosen}
+use Rattle.table.specs.Rows.{pick, keep, every}
+use Rattle.table.specs.Table.{Table, joined, rowsOf, live, detectorOf, tableOf, withRows, fault, lengthOk, scaleOk, idOk, muxOk, signOk}
+use Rattle.table.specs.Regular.{Proper}
+use Rattle.table.proofs.Laws.{chosen, map-take}
+use Rattle.table.proofs.Columns.{Sound, detectors-are}
 use Rattle.frames.specs.declared.CanFrame.{CanFrame}
 use Rattle.frames.specs.declared.Multiplexor.{Multiplexor}
+use Rattle.frames.specs.declared.Multiplexor.the-variants.{Number}
 use Rattle.frames.specs.declared.Outcome.{Outcome}
 use Rattle.frames.specs.declared.Outcome.the-variants.{PassedOver, NoValue, First, Warming, Scored}
 use Rattle.frames.specs.declared.Report.{Report}
 use Rattle.frames.specs.declared.Step.{Step}
 use Rattle.frames.specs.declared.SignalAnomaly.{SignalAnomaly}
 use Rattle.frames.specs.declared.Processed.{Processed}
-use Rattle.frames.specs.Frames.{applies, multiplexorOf, meets, sampled, stepRow, nextOf, advanced, reportOf, reports, Finding, passedOver, noValue, firstSample, warmingUp, scored, outcomeMeans, isFlagged, flags, anomaly, flagged, listed, moved, processed, processedFrame}
+use Rattle.frames.specs.Frames.{applies, numbered, numberOf, multiplexorOf, meets, sampled, stepRow, nextOf, advanced, reportOf, reports, Finding, passedOver, noValue, firstSample, warmingUp, scored, outcomeMeans, isFlagged, flags, anomaly, flagged, listed, answered, moved, processed, processedFrame}
 use Rattle.frames.proofs.Steps.{step-sampled}
 use Rattle.frames.proofs.Lists.{tally-cons}
+use Rattle.frames.proofs.Rows.{next-stays}
+use Rattle.frames.proofs.Moves.{withDetectors}
 
 -- ---- a promise determines its answer: two results that it allows are equal
 pub frame-determined : (e : SignalIdsEngine) (f : CanFrame) (r q : Processed) → r ≡ processedFrame e f → q ≡ processedFrame e f → r ≡ q
@@ -141,3 +153,69 @@ module _ (e : SignalIdsEngine) (id : ℕ) (x : Bool) (s : List ℕ) (n : ℕ) wh
       × (processed e id x s n .engine .«next_slot» ≡ e .«next_slot»)
       × (processed e id x s n .engine .fresh ≡ e .fresh)
   only-detectors = (refl, refl, refl, refl, refl)
+
+-- ---- where no row applies the engine comes back as it was, with no report
+none-move : (id : ℕ) (x : Bool) (s : List ℕ) (n : ℕ) (m : Multiplexor) (l : List Entry) → keep (applies id x) l ≡ [] → map (nextOf id x s n m) l ≡ l
+none-move id x s n m [] h = refl
+none-move id x s n m (row ∷ l) h = go (λ k. none-move id x s n m l k) (applies id x row) refl h
+  where
+    go : (keep (applies id x) l ≡ [] → map (nextOf id x s n m) l ≡ l)
+        → (b : Bool)
+        → applies id x row ≡ b
+        → pick b (row ∷ keep (applies id x) l) (keep (applies id x) l) ≡ []
+        → map (nextOf id x s n m) (row ∷ l) ≡ row ∷ l
+    go rest true e k = absurd (omega (arith, ap length k))
+    go rest false e k = ap (λ (r : Entry). r ∷ map (nextOf id x s n m) l) (next-stays id x s n m row e) ∙ ap (λ (r : List Entry). row ∷ r) (rest k)
+
+pub nothing-applies : (e : SignalIdsEngine) → Sound e → (id : ℕ) (x : Bool) (s : List ℕ) (n : ℕ)
+    → keep (applies id x) (live e) ≡ []
+    → processed e id x s n ≡ record { engine = e; result = answered [] }
+nothing-applies e good id x s n h =
+    let m : Multiplexor = multiplexorOf id x s n (live e) in
+    let same : moved e (live e) ≡ e =
+    ap (withDetectors e)
+    (ap (λ (l : List EwmaDetector). l ++ drop (e .count) (e .detectors)) (map-take detectorOf (e .count) (rowsOf e) ∙ ap (take (e .count)) (detectors-are e good))
+    ∙ take-append-drop (e .count) (e .detectors)) in
+    ap (λ (l : List Entry). (record { engine = moved e l; result = answered (reports id x s n (live e)) })) (none-move id x s n m (live e) h)
+    ∙ ap (λ (l : List Entry). (record { engine = moved e (live e); result = answered (map (reportOf s n m) l) })) h
+    ∙ ap (λ (q : SignalIdsEngine). (record { engine = q; result = answered [] })) same
+
+-- ---- the multiplexor's number fits 16 bits in every table that calls make
+mux-within : (d : SignalDefinition) → d .«is_multiplexor» ≡ true → muxOk d ≡ true → d .«bit_length» ≤ 16
+unfolding muxOk
+mux-within d f k = leb-true (d .«bit_length») 16 (ap (λ (b : Bool). pick b (leb (d .«bit_length») 16) true) (sym f) ∙ k)
+
+mux-short : (d : SignalDefinition) → fault d ≡ 0 → d .«is_multiplexor» ≡ true → d .«bit_length» ≤ 16
+mux-short d h f = go (lengthOk d) (scaleOk d) (idOk d) (muxOk d) refl h
+  where
+    go : (a b c m : Bool) → muxOk d ≡ m → _≡_ {A = ℕ} (pick a (pick b (pick c (pick m (pick (signOk d) 0 3) 3) 3) 3) 2) 0 → d .«bit_length» ≤ 16
+    go true true true true e k = mux-within d f e
+    go true true true false e k = absurd (omega arith)
+    go true true false m e k = absurd (omega arith)
+    go true false c m e k = absurd (omega arith)
+    go false b c m e k = absurd (omega arith)
+
+number-below : (s : List ℕ) (n : ℕ) (d : SignalDefinition) (k : ℕ) → fault d ≡ 0 → d .«is_multiplexor» ≡ true → numberOf s n d ≡ Number k → k < 65536
+unfolding rawSignal
+number-below s n d k h f = go (rawSignal s n d) refl
+  where
+    go : (a : Answer) → rawSignal s n d ≡ a → numbered a ≡ Number k → k < 65536
+    go (value v) e q =
+        let same : v ≡ k = cc in
+        let less = told s n (d .«byte_order») (d .«start_bit») (d .«bit_length») v e .less in
+        lt-of-lt-of-le (subst (λ (j : ℕ). j < 2 ^ d .«bit_length») same less) (pow-mono {j = 16} (mux-short d h f))
+    go (refused r) e q = let z : _≡_ {A = ℕ} 0 1 = cc in absurd (omega arith)
+
+pub number-fits : (id : ℕ) (x : Bool) (s : List ℕ) (n next : ℕ) (l : List Entry) → every (Proper next) l → (k : ℕ) → multiplexorOf id x s n l ≡ Number k → k < 65536
+number-fits id x s n next [] p k h = let z : _≡_ {A = ℕ} 0 1 = cc in absurd (omega arith)
+number-fits id x s n next (row ∷ l) p k h =
+    go (number-fits id x s n next l (p .1) k) (applies id x row) (row .signal .definition .«is_multiplexor») refl h
+  where
+    go : (multiplexorOf id x s n l ≡ Number k → k < 65536)
+        → (a b : Bool)
+        → row .signal .definition .«is_multiplexor» ≡ b
+        → pick (pick a b false) (numberOf s n (row .signal .definition)) (multiplexorOf id x s n l) ≡ Number k
+        → k < 65536
+    go rest true true f q = number-below s n (row .signal .definition) k (p .0 .passes) f q
+    go rest true false f q = rest q
+    go rest false b f q = rest q

@@ -13,7 +13,7 @@ use Rattle.conversion.specs.declared.SignalDefinition.{SignalDefinition}
 use Rattle.table.specs.declared.Answer.{Answer}
 use Rattle.table.specs.declared.Answer.the-variants.{Slot, Done}
 use Rattle.table.specs.Rows.{pick, every, some}
-use Rattle.table.specs.Table.{Table, Told, accepted, refused, fault, faults, slotsOk, has, define′, added, remove′, without, batch′, appendedAll}
+use Rattle.table.specs.Table.{Table, accepted, refused, fault, faults, slotsOk, has, define′, added, remove′, without, batch′, appendedAll}
 
 -- define: the five tests are passed, there is room and a slot number
 pub record DefineAccepted (t : Table) (d : SignalDefinition) (a : Answer) (u : Table) : Type 0 where

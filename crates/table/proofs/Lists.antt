@@ -1,13 +1,13 @@
 -- What a list's rows have, each or pair by pair, after an insertion, a removal or a move.
 -- Assumes nothing.
-use mathlib.Core.Path.{_≡_, refl, ap}
+use mathlib.Core.Path.{_≡_, refl}
 use mathlib.Core.Bool.{Bool, true, false}
 use mathlib.Core.List.{List, [], _∷_, _++_, map}
 use Prim.Native.Nat.{ℕ, _+_, _≤_, _<_}
 use native.Mathlib.Omega.{arith}
 use lib.Dec.{ltb}
 use borrow.Author.Tests.{ltb-true, ltb-false}
-use Rattle.table.specs.Rows.{pick, some, insertBehind, dropFirst, every, pairs}
+use Rattle.table.specs.Rows.{pick, insertBehind, dropFirst, every, pairs}
 
 module _ {A : Type 0} where
   pub every-weaken : (P Q : A → Type 0) → ((a : A) → P a → Q a) → (l : List A) → every P l → every Q l
@@ -88,27 +88,3 @@ module _ {A : Type 0} where
       moved : (m : List A) → every (R a) m → every (R (g a)) (map g m)
       moved [] e = tt
       moved (b ∷ m) e = (h a b (e .0), moved m (e .1))
-
-  -- a move that leaves the test's answer commutes with each step of the table
-  module _ (p : A → Bool) (g : A → A) (same : (a : A) → p (g a) ≡ p a) where
-    pub some-move : (l : List A) → some p (map g l) ≡ some p l
-    some-move [] = refl
-    some-move (a ∷ l) = rw (same a, some-move l)
-
-    pub drop-first-move : (l : List A) → dropFirst p (map g l) ≡ map g (dropFirst p l)
-    drop-first-move [] = refl
-    drop-first-move (a ∷ l) = rw (same a) (at (drop-first-move l) (p a))
-      where
-        at : dropFirst p (map g l) ≡ map g (dropFirst p l) → (b : Bool) → pick b (map g l) (g a ∷ dropFirst p (map g l)) ≡ map g (pick b l (a ∷ dropFirst p l))
-        at i true = refl
-        at i false = ap (λ (m : List A). g a ∷ m) i
-
-    pub insert-move : (x : A) (l : List A) → insertBehind p (g x) (map g l) ≡ map g (insertBehind p x l)
-    insert-move x [] = refl
-    insert-move x (a ∷ l) = rw (same a) (at (insert-move x l) (p a))
-      where
-        at : insertBehind p (g x) (map g l) ≡ map g (insertBehind p x l)
-            → (b : Bool)
-            → pick b (g a ∷ insertBehind p (g x) (map g l)) (g x ∷ g a ∷ map g l) ≡ map g (pick b (a ∷ insertBehind p x l) (x ∷ a ∷ l))
-        at i true = ap (λ (m : List A). g a ∷ m) i
-        at i false = refl

@@ -1,7 +1,6 @@
 -- Every table call leaves a regular table regular, and so does a move of the detectors.
 -- Assumes nothing.
 use mathlib.Core.Path.{_≡_, refl, sym, ap, _∙_, subst}
-use mathlib.Core.Bool.{Bool, true, false}
 use mathlib.Core.Logic.{_⊎_, inl, inr, ⊎-elim}
 use mathlib.Core.List.{List, [], _∷_, map}
 use Prim.Native.Nat.{ℕ, _+_, _≤_, _<_, min}
@@ -10,12 +9,11 @@ use native.Mathlib.Omega.{arith}
 use lib.ListN.{length, length-map, length-take, take}
 use Rattle.conversion.specs.declared.SignalDefinition.{SignalDefinition}
 use Rattle.detector.specs.declared.EwmaDetector.{EwmaDetector}
-use Rattle.table.specs.declared.Answer.{Answer}
 use Rattle.table.specs.declared.Signal.{Signal}
 use Rattle.table.specs.declared.Entry.{Entry}
 use Rattle.table.specs.declared.SignalIdsEngine.{SignalIdsEngine}
-use Rattle.table.specs.Rows.{every, pairs}
-use Rattle.table.specs.Table.{Table, Told, accepted, refused, tableOf, engineOf, emptyTable, withRows, defined, fault, entryOf, below, placedBehind, added, define′, has, without, remove′, appended, appendedAll, batch′}
+use Rattle.table.specs.Rows.{every}
+use Rattle.table.specs.Table.{Table, Told, accepted, refused, tableOf, engineOf, emptyTable, withRows, defined, fault, entryOf, below, placedBehind, define′, has, remove′, appended, appendedAll, batch′}
 use Rattle.table.specs.Calls.{TableCall, defines, batches, removes, told, left, after, ran, called}
 use Rattle.table.specs.Regular.{Used, Proper, Regular}
 use Rattle.table.proofs.Laws.{length-insert, length-drop-first}

@@ -15,9 +15,9 @@ use Rattle.detector.specs.declared.EwmaDetector.{EwmaDetector}
 use Rattle.table.specs.declared.Answer.{Answer}
 use Rattle.table.specs.declared.Signal.{Signal}
 use Rattle.table.specs.declared.Entry.{Entry}
-use Rattle.table.specs.Rows.{pick, keep, some, dropFirst, insertBehind, every, pairs, among}
-use Rattle.table.specs.Table.{Table, Told, accepted, refused, emptyTable, entryOf, below, has, added, appended, appendedAll}
-use Rattle.table.specs.Calls.{TableCall, defines, batches, removes, told, left, after, ran, brought, numbered, given, granted}
+use Rattle.table.specs.Rows.{pick, keep, some, dropFirst, insertBehind, every, among}
+use Rattle.table.specs.Table.{Table, Told, accepted, refused, emptyTable, entryOf, below, has, appended, appendedAll}
+use Rattle.table.specs.Calls.{TableCall, defines, batches, removes, told, left, ran, brought, numbered, given, granted}
 use Rattle.table.specs.Regular.{Apart, Rising, Regular}
 use Rattle.table.proofs.Lists.{every-weaken, every-append, every-insert, every-drop, pairs-append}
 use Rattle.table.proofs.Accepted.{DefineAccepted, define-accepted, RemoveAccepted, remove-accepted, BatchAccepted, batch-accepted, slots-enough}

@@ -1,28 +1,26 @@
--- What follows of the promises: a definition that passes the tests, the count of rows, what an answer says, and that each promise determines its answer.
+-- What follows of the promises: a definition that passes the tests, the count of rows, the end of the slots, and what an answer says.
 -- Assumes nothing.
 use mathlib.Core.Path.{_≡_, refl, sym, ap, _∙_}
 use mathlib.Core.Bool.{Bool, true, false, _&&_}
-use mathlib.Core.List.{List, [], _∷_}
+use mathlib.Core.List.{[], _∷_}
 use Prim.Native.Nat.{ℕ, _+_, _≤_}
+use native.Mathlib.Decide.{decLe}
 use native.Mathlib.Omega.{arith}
 use lib.Dec.{leb}
-use lib.Ieee.{Float}
 use lib.Ieee.Scale.{finite}
 use lib.ListN.{length, take}
-use borrow.Author.Tests.{leb-true}
+use borrow.Author.Tests.{eq-eqb, leb-true}
 use Rattle.conversion.specs.declared.SignalDefinition.{SignalDefinition}
 use Rattle.table.specs.declared.Answer.{Answer}
 use Rattle.table.specs.declared.Answer.the-variants.{Slot, Done, Refused}
-use Rattle.table.specs.declared.Defined.{Defined}
-use Rattle.table.specs.declared.Entry.{Entry}
 use Rattle.table.specs.declared.SignalIdsEngine.{SignalIdsEngine}
 use Rattle.table.specs.Rows.{pick, every}
-use Rattle.table.specs.Table.{Table, Told, accepted, refused, live, tableOf, defined, created, lengthOk, scaleOk, idOk, muxOk, signOk, fault, entryOf, below, has, define′, remove′, batch′, appendedAll}
-use Rattle.table.specs.Calls.{TableCall, defines, batches, removes, told, brought, takenOut}
+use Rattle.table.specs.Table.{Table, Told, accepted, refused, tableOf, defined, lengthOk, scaleOk, idOk, muxOk, signOk, fault, entryOf, below, has, define′, faults, slotsOk, batch′, appendedAll}
+use Rattle.table.specs.Calls.{TableCall, defines, batches, removes, told, brought, numbered, takenOut}
 use Rattle.table.specs.Regular.{Proper, Regular}
 use Rattle.table.proofs.Laws.{length-insert, length-drop-first}
 use Rattle.table.proofs.Lists.{every-weaken}
-use Rattle.table.proofs.Answers.{length-appended}
+use Rattle.table.proofs.Answers.{length-appended, define-full, define-spent, batch-new}
 use Rattle.table.proofs.Accepted.{DefineAccepted, define-accepted, RemoveAccepted, remove-accepted, BatchAccepted, batch-accepted}
 
 -- ---- the five tests of document 01, of a definition that has no fault
@@ -55,8 +53,6 @@ passing d = go (lengthOk d) refl (scaleOk d) refl (idOk d) refl (muxOk d) refl (
         let length-is = both-true (leb 1 (d .«bit_length»)) (leb (d .«bit_length») 64) p in
         let finite-are = both-true (finite (d .scale)) (finite (d .offset)) q in
         let id-is : d .«can_id» ≤ pick (d .«is_extended») 0x1FFFFFFF 0x7FF = leb-true (d .«can_id») (pick (d .«is_extended») 0x1FFFFFFF 0x7FF) r in
-        let mux-is : d .«bit_length» ≤ pick (d .«is_multiplexor») 16 255 = leb-true (d .«bit_length») (pick (d .«is_multiplexor») 16 255) s in
-        let sign-is : pick (d .signed) 2 0 ≤ d .«bit_length» = leb-true (pick (d .signed) 2 0) (d .«bit_length») t in
         record {
           long = leb-true 1 (d .«bit_length») (length-is .0);
           short = leb-true (d .«bit_length») 64 (length-is .1);
@@ -64,8 +60,8 @@ passing d = go (lengthOk d) refl (scaleOk d) refl (idOk d) refl (muxOk d) refl (
           offset = finite-are .1;
           standard = λ e. omega (arith, ap {B = ℕ} (λ (x : Bool). pick x 0x1FFFFFFF 0x7FF) e);
           extended = low-id (d .«is_extended») (d .«can_id») id-is;
-          multiplexor = λ e. omega (arith, ap {B = ℕ} (λ (x : Bool). pick x 16 255) e);
-          sign = λ e. omega (arith, ap {B = ℕ} (λ (x : Bool). pick x 2 0) e);
+          multiplexor = λ e. leb-true (d .«bit_length») 16 (sym (ap (λ (x : Bool). pick x (leb (d .«bit_length») 16) true) e) ∙ s);
+          sign = λ e. leb-true 2 (d .«bit_length») (sym (ap (λ (x : Bool). pick x (leb 2 (d .«bit_length»)) true) e) ∙ t);
         }
     go true p true q true r true s false t h = absurd (omega arith)
     go true p true q true r false s g t h = absurd (omega arith)
@@ -88,6 +84,32 @@ count-after t (batches ds n) a u e =
 count-after t (removes s) a u e =
     let f : RemoveAccepted t s a u = remove-accepted t s a u e in
     omega (arith, ap (λ (v : Table). length (v .rows)) (f .table), length-drop-first (has s) (t .rows) (f .there))
+
+-- ---- the end of the slots
+-- at next slot 65,535 every define is refused: with its own fault, or with 4
+pub define-exhausted : (t : Table) (d : SignalDefinition) → fault d ≡ 0 → t .next ≡ 65535 → define′ t d ≡ refused 4
+define-exhausted t d ok end = go (decLe 64 (length (t .rows)))
+  where
+    go : Dec (64 ≤ length (t .rows)) → define′ t d ≡ refused 4
+    go (yes h) = define-full t d ok h
+    go (no h) = define-spent t d ok (omega arith) end
+
+-- at next slot 65,534 a batch of two gets 65,534 and 65,535, and define is then refused
+pub last-slots : (t : Table) (a b : SignalDefinition)
+    → t .next ≡ 65534
+    → length (t .rows) ≤ 62
+    → fault a ≡ 0
+    → fault b ≡ 0
+    → (batch′ t (a ∷ b ∷ []) 2 ≡ accepted Done (appendedAll t (a ∷ b ∷ [])))
+    × (numbered (t .next) (a ∷ b ∷ []) ≡ record { slot = 65534; definition = a } ∷ record { slot = 65535; definition = b } ∷ [])
+    × ((d : SignalDefinition) → fault d ≡ 0 → define′ (appendedAll t (a ∷ b ∷ [])) d ≡ refused 4)
+unfolding slotsOk
+last-slots t a b end room p q =
+    let clean : faults (a ∷ b ∷ []) ≡ 0 = rw (eq-eqb (fault a) 0 p, eq-eqb (fault b) 0 q) in (
+      batch-new t (a ∷ b ∷ []) 2 (omega arith) clean (ap (slotsOk 2) end),
+      ap (λ (s : ℕ). numbered s (a ∷ b ∷ [])) end,
+      λ d ok. define-exhausted (appendedAll t (a ∷ b ∷ [])) d ok (omega arith),
+    )
 
 -- ---- an answer tells the case
 -- an accepted call answers no refusal
@@ -118,22 +140,3 @@ refused-only e c k = go (told (tableOf e) c) refl
     go : (x : Told) → told (tableOf e) c ≡ x → defined e x .answer ≡ Refused k → x ≡ refused k
     go (refused j) h i = let same : j ≡ k = cc in ap refused same
     go (accepted a u) h i = absurd (accepted-answer (tableOf e) c a u k h i)
-
--- ---- two answers that a promise allows are equal
-pub new-once : (alpha threshold : Float) (r s : Defined) → r ≡ created alpha threshold → s ≡ created alpha threshold → r ≡ s
-new-once alpha threshold r s p q = p ∙ sym q
-
-pub define-once : (e : SignalIdsEngine) (d : SignalDefinition) (r s : Defined) → r ≡ defined e (define′ (tableOf e) d) → s ≡ defined e (define′ (tableOf e) d) → r ≡ s
-define-once e d r s p q = p ∙ sym q
-
-pub batch-once : (e : SignalIdsEngine) (ds : List SignalDefinition) (n : ℕ) (r s : Defined) → r ≡ defined e (batch′ (tableOf e) ds n) → s ≡ defined e (batch′ (tableOf e) ds n) → r ≡ s
-batch-once e ds n r s p q = p ∙ sym q
-
-pub remove-once : (e : SignalIdsEngine) (slot : ℕ) (r s : Defined) → r ≡ defined e (remove′ (tableOf e) slot) → s ≡ defined e (remove′ (tableOf e) slot) → r ≡ s
-remove-once e slot r s p q = p ∙ sym q
-
-pub count-once : (e : SignalIdsEngine) (r s : ℕ) → r ≡ length (live e) → s ≡ length (live e) → r ≡ s
-count-once e r s p q = p ∙ sym q
-
-pub next-once : (e : SignalIdsEngine) (r s : ℕ) → r ≡ e .«next_slot» → s ≡ e .«next_slot» → r ≡ s
-next-once e r s p q = p ∙ sym q

@@ -1,17 +1,15 @@
 -- `table::copied` meets its contract: out holds its own rows and those of e from the first place up to i. Assumes nothing.
 use mathlib.Core.Path.{_≡_, sym, ap, _∙_}
 use mathlib.Core.List.{List, [], _∷_, _++_, append-nil, append-assoc}
-use Prim.Native.Nat.{ℕ, _+_, _-_, _≤_, _<_}
+use Prim.Native.Nat.{ℕ, _+_, _-_, _≤_}
 use native.Mathlib.Omega.{arith}
-use lib.ListN.{length, length-map, getD, take, drop}
+use lib.ListN.{length-map, take, drop}
 use Rattle.table.specs.declared.Entry.{Entry}
 use Rattle.table.specs.Table.{rowsOf, live, tableOf, engineOf, withRows}
 use Rattle.table.proofs.Laws.{slice-more, slice-none}
 use Rattle.table.proofs.Columns.{past, Sound, length-rows, row-is, stored}
 use Rattle.table.proofs.copied.Statement.{statement}
 use Rattle.table.proofs.copied.Tie as tie
-use Rattle.table.proofs.copied.Reads as reads
-use Rattle.table.proofs.copied.Lts as lts
 
 abbrev Inv-loop : tie.InvT-loop
 Inv-loop from to e out₀ i₀ out i =

@@ -1,10 +1,10 @@
 -- `table::place_of` meets its contract: before place i no row has the slot. Assumes nothing.
 use mathlib.Core.Path.{_≡_, sym, ap, _∙_}
 use mathlib.Core.Bool.{not}
-use Prim.Native.Nat.{ℕ, _+_, _-_, _≤_}
+use Prim.Native.Nat.{_+_, _-_, _≤_}
 use native.Mathlib.Omega.{arith}
 use borrow.Author.Tests.{eq-eqb, ne-eqb}
-use lib.ListN.{length, length-map, getD, take, drop}
+use lib.ListN.{length-map, take, drop}
 use Rattle.table.specs.declared.Entry.{Entry}
 use Rattle.table.specs.Rows.{front}
 use Rattle.table.specs.Table.{rowsOf, other}
@@ -12,8 +12,6 @@ use Rattle.table.proofs.Laws.{front-next, front-stop, front-end}
 use Rattle.table.proofs.Columns.{past, Sound, length-rows, row-is}
 use Rattle.table.proofs.place_of.Statement.{statement}
 use Rattle.table.proofs.place_of.Tie as tie
-use Rattle.table.proofs.place_of.Reads as reads
-use Rattle.table.proofs.place_of.Lts as lts
 
 abbrev Inv-loop : tie.InvT-loop
 Inv-loop n slot e i₀ i = (i ≤ n) × (front (other slot) (take n (rowsOf e)) ≡ i + front (other slot) (drop i (take n (rowsOf e))))

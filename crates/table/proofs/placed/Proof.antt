@@ -1,7 +1,7 @@
 -- `table::placed` meets its contract. Assumes nothing.
-use mathlib.Core.Path.{_≡_, _∙_}
+use mathlib.Core.Path.{_∙_}
 use native.Mathlib.Omega.{arith}
-use lib.ListN.{length, length-map, length-take}
+use lib.ListN.{length-map, length-take}
 use Rattle.table.specs.Table.{rowsOf, live, below}
 use Rattle.table.proofs.Laws.{front-le}
 use Rattle.table.proofs.Columns.{Sound}
@@ -9,11 +9,6 @@ use Rattle.table.proofs.Answers.{position-is, placed-is}
 use borrow.Author.Needs.{needs}
 use Rattle.table.proofs.placed.Statement.{statement}
 use Rattle.table.proofs.placed.Tie as tie
-use Rattle.table.proofs.placed.Reads as reads
-use Rattle.table.proofs.placed.Lts as lts
-use Rattle.table.proofs.after.Reads as after-reads
-use Rattle.table.proofs.inserted.Reads as inserted-reads
-use Rattle.table.proofs.position.Reads as position-reads
 
 sound : (c : tie.Start) → Sound (c .args .t1)
 sound c =

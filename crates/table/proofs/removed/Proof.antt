@@ -1,9 +1,9 @@
 -- `table::removed` meets its contract: the rows before the place, then those behind it. Assumes nothing.
-use mathlib.Core.Path.{_≡_, sym, ap, _∙_}
-use mathlib.Core.List.{List, [], _∷_, _++_}
-use Prim.Native.Nat.{ℕ, _+_}
+use mathlib.Core.Path.{sym, ap, _∙_}
+use mathlib.Core.List.{List, [], _++_}
+use Prim.Native.Nat.{_+_}
 use native.Mathlib.Omega.{arith}
-use lib.ListN.{length, length-take, take, drop}
+use lib.ListN.{length-take, take, drop}
 use lib.Seq.{take-take}
 use Rattle.table.specs.declared.Entry.{Entry}
 use Rattle.table.specs.Table.{rowsOf, tableOf, engineOf, withRows}
@@ -11,10 +11,6 @@ use Rattle.table.proofs.Columns.{blank-behind, begun, grown, count-is}
 use borrow.Author.Needs.{needs}
 use Rattle.table.proofs.removed.Statement.{statement}
 use Rattle.table.proofs.removed.Tie as tie
-use Rattle.table.proofs.removed.Reads as reads
-use Rattle.table.proofs.removed.Lts as lts
-use Rattle.table.proofs.copied.Reads as copied-reads
-use Rattle.table.proofs.emptied.Reads as emptied-reads
 
 emptied-requires : tie.Need-emptied-requires
 emptied-requires c κs = search needs

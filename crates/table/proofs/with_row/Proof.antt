@@ -4,8 +4,6 @@ use Rattle.table.proofs.Columns.{stored}
 use borrow.Author.Needs.{needs}
 use Rattle.table.proofs.with_row.Statement.{statement}
 use Rattle.table.proofs.with_row.Tie as tie
-use Rattle.table.proofs.with_row.Reads as reads
-use Rattle.table.proofs.with_row.Lts as lts
 
 mul-out : tie.Need-mul-out
 mul-out c = search needs

@@ -5,9 +5,6 @@ use lib.ListN.{length-map}
 use Rattle.table.proofs.Columns.{Sound, length-live}
 use Rattle.table.proofs.SignalIdsEngine.signal_count.Statement.{statement}
 use Rattle.table.proofs.SignalIdsEngine.signal_count.Tie as tie
-use Rattle.table.proofs.SignalIdsEngine.signal_count.Reads as reads
-use Rattle.table.proofs.SignalIdsEngine.signal_count.Lts as lts
-use Rattle.table.proofs.clamp.Reads as clamp-reads
 
 sound : (c : tie.Start) → Sound (c .args .self)
 sound c =

@@ -1,0 +1,135 @@
+// Frames through the engine that the script keeps.
+use crate::engine::Told;
+use crate::script::bytes;
+use crate::script::low8;
+use crate::script::low32;
+use crate::script::number;
+use crate::show::put_byte;
+use crate::show::put_field;
+use crate::show::put_flag;
+use crate::show::put_float;
+use crate::show::put_text;
+use frames::CanFrame;
+use frames::Outcome;
+use frames::Processed;
+use frames::Report;
+use frames::SignalAnomaly;
+use frames::SignalIdsResult;
+use frames::process_frame;
+use frames::process_raw_frame;
+use table::SignalIdsEngine;
+
+fn put_anomaly(out: &mut [u8], at: usize, a: SignalAnomaly) -> usize {
+    let slot = put_field(out, at, a.slot as u64, 4);
+    let score = put_float(out, slot, a.z_score);
+    put_float(out, score, a.physical_value)
+}
+
+// The count, and all eight places.
+fn put_anomalies(out: &mut [u8], at: usize, r: SignalIdsResult) -> usize {
+    let mut to = put_field(out, at, r.anomaly_count as u64, 2);
+    let mut i = 0usize;
+    while i < 8 {
+        let a = r.anomalies[i];
+        to = put_anomaly(out, to, a);
+        i += 1;
+    }
+    to
+}
+
+fn put_scored(out: &mut [u8], at: usize, value: f32, score: f32, flag: bool) -> usize {
+    let case = put_text(out, at, b" scored");
+    let v = put_float(out, case, value);
+    let z = put_float(out, v, score);
+    put_flag(out, z, flag)
+}
+
+fn put_outcome(out: &mut [u8], at: usize, o: Outcome) -> usize {
+    match o {
+        Outcome::PassedOver => put_text(out, at, b" over"),
+        Outcome::NoValue => put_text(out, at, b" none"),
+        Outcome::First(v) => {
+            let case = put_text(out, at, b" first");
+            put_float(out, case, v)
+        }
+        Outcome::Warming(v) => {
+            let case = put_text(out, at, b" warming");
+            put_float(out, case, v)
+        }
+        Outcome::Scored(v, z, flag) => put_scored(out, at, v, z, flag),
+    }
+}
+
+fn put_report(out: &mut [u8], at: usize, r: Report) -> usize {
+    let outcome = r.outcome;
+    let slot = put_field(out, at, r.slot as u64, 4);
+    put_outcome(out, slot, outcome)
+}
+
+// On a line of their own, the outcomes of the definitions that apply.
+fn put_reports(out: &mut [u8], at: usize, r: SignalIdsResult) -> usize {
+    let line = put_text(out, at, b"\np");
+    let mut to = put_field(out, line, r.report_count as u64, 2);
+    let mut i = 0usize;
+    while i < 64 {
+        if r.report_count <= i {
+            return to;
+        }
+        let report = r.reports[i];
+        to = put_report(out, to, report);
+        i += 1;
+    }
+    to
+}
+
+fn answered(done: Processed, letter: u8, out: &mut [u8], at: usize) -> Told {
+    let engine = done.engine;
+    let result = done.result;
+    let start = put_byte(out, at, letter);
+    let listed = put_anomalies(out, start, result);
+    let end = put_reports(out, listed, result);
+    Told { engine, at: end }
+}
+
+// The first eight bytes, 0 where there are fewer.
+fn eight(data: &[u8]) -> [u8; 8] {
+    let mut d = [0u8; 8];
+    let mut i = 0usize;
+    while i < 8 {
+        if data.len() <= i {
+            return d;
+        }
+        d[i] = data[i];
+        i += 1;
+    }
+    d
+}
+
+// `f`: a frame.
+pub fn frame(e: SignalIdsEngine, s: &[u8], data: &mut [u8], out: &mut [u8], at: usize) -> Told {
+    let id = number(s, 2);
+    let extended = number(s, id.next);
+    let length = number(s, extended.next);
+    let n = bytes(s, length.next, data);
+    let d = eight(&data[..n]);
+    let f = CanFrame {
+        id: low32(id.value),
+        is_extended: extended.value != 0,
+        length: low8(length.value),
+        data: d,
+    };
+    answered(process_frame(e, f), b'f', out, at)
+}
+
+// `g`: a raw frame.
+pub fn raw_frame(e: SignalIdsEngine, s: &[u8], data: &mut [u8], out: &mut [u8], at: usize) -> Told {
+    let id = number(s, 2);
+    let data_len = number(s, id.next);
+    let n = bytes(s, data_len.next, data);
+    answered(
+        process_raw_frame(e, low32(id.value), &data[..n], data_len.value as usize),
+        b'g',
+        out,
+        at,
+    )
+}

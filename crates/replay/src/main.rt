@@ -1,0 +1,269 @@
+// Answers a script of library calls on standard input: each answer, each lent buffer and, where asked, the whole state.
+// The same script goes to the Rust, and the two outputs are compared. The form of a script is in oracle/SCRIPTS.md.
+mod detecting;
+mod engine;
+mod framing;
+mod plain;
+mod script;
+mod show;
+
+ghost use Prim.Native.Nat.{_+_, _≤_};
+ghost use lib.ListN.{length};
+ghost use Rattle.io.specs.Counts.{Counts};
+use detecting::Kept;
+use detector::EwmaDetector;
+use engine::Told;
+use libc::STDIN_FILENO;
+use libc::STDOUT_FILENO;
+use show::put_byte;
+use table::SignalIdsEngine;
+
+// What the calls of a script act on, and how much of the output buffer is in use.
+struct Machine {
+    detector: EwmaDetector,
+    has_detector: bool,
+    engine: SignalIdsEngine,
+    has_engine: bool,
+    at: usize,
+}
+
+// The answer's line ends.
+fn ended(m: Machine, at: usize, out: &mut [u8]) -> Machine {
+    let mut next = m;
+    next.at = put_byte(out, at, b'\n');
+    next
+}
+
+fn with_detector(m: Machine, k: Kept, out: &mut [u8]) -> Machine {
+    let detector = k.detector;
+    let mut next = m;
+    next.detector = detector;
+    next.has_detector = k.made;
+    ended(next, k.at, out)
+}
+
+fn with_engine(m: Machine, t: Told, out: &mut [u8]) -> Machine {
+    let engine = t.engine;
+    let mut next = m;
+    next.engine = engine;
+    ended(next, t.at, out)
+}
+
+// A fresh engine, or none where it was refused.
+fn fresh_engine(m: Machine, s: &[u8], out: &mut [u8]) -> Machine {
+    let done = engine::new(s);
+    let answer = done.answer;
+    let mut next = m;
+    next.has_engine = engine::accepted(answer);
+    let told = engine::told_new(done, out, m.at);
+    with_engine(next, told, out)
+}
+
+fn on_detector(m: Machine, letter: u8, s: &[u8], out: &mut [u8]) -> Machine {
+    let d = m.detector;
+    match letter {
+        b'u' => with_detector(m, detecting::update(d, s, out, m.at), out),
+        b'z' => with_detector(m, detecting::set_freeze_duration(d, s, out, m.at), out),
+        _ => with_detector(m, detecting::recalibrate(d, s, out, m.at), out),
+    }
+}
+
+fn on_engine(m: Machine, letter: u8, s: &[u8], out: &mut [u8]) -> Machine {
+    let e = m.engine;
+    match letter {
+        b'd' => with_engine(m, engine::define(e, s, out, m.at), out),
+        b'b' => with_engine(m, engine::batch(e, s, out, m.at), out),
+        b'm' => with_engine(m, engine::remove(e, s, out, m.at), out),
+        b'y' => with_engine(m, engine::passes(e, s, out, m.at), out),
+        _ => ended(m, engine::show(e, out, m.at), out),
+    }
+}
+
+fn on_frame(m: Machine, letter: u8, s: &[u8], data: &mut [u8], out: &mut [u8]) -> Machine {
+    let e = m.engine;
+    match letter {
+        b'f' => with_engine(m, framing::frame(e, s, data, out, m.at), out),
+        _ => with_engine(m, framing::raw_frame(e, s, data, out, m.at), out),
+    }
+}
+
+fn answered(m: Machine, letter: u8, s: &[u8], data: &mut [u8], out: &mut [u8]) -> Machine {
+    match letter {
+        b'r' => ended(m, plain::raw(s, data, out, m.at), out),
+        b'w' => ended(m, plain::write(s, data, out, m.at), out),
+        b'x' => ended(m, plain::signal(s, data, out, m.at), out),
+        b'n' => ended(m, plain::unsigned(s, out, m.at), out),
+        b'i' => ended(m, plain::signed(s, out, m.at), out),
+        b'q' => ended(m, plain::root(s, out, m.at), out),
+        b'a' => with_detector(m, detecting::new(s, out, m.at), out),
+        b'o' => with_detector(m, detecting::with_options(s, out, m.at), out),
+        b'e' => fresh_engine(m, s, out),
+        b'u' | b'z' | b'c' => {
+            if m.has_detector {
+                on_detector(m, letter, s, out)
+            } else {
+                m
+            }
+        }
+        b'f' | b'g' => {
+            if m.has_engine {
+                on_frame(m, letter, s, data, out)
+            } else {
+                m
+            }
+        }
+        b'd' | b'b' | b'm' | b'y' | b's' => {
+            if m.has_engine {
+                on_engine(m, letter, s, out)
+            } else {
+                m
+            }
+        }
+        _ => m,
+    }
+}
+
+// The first bytes of the buffer go out.
+fn sent(out: &[u8], at: usize) -> bool {
+    if out.len() < at {
+        return false;
+    }
+    io::write_all(STDOUT_FILENO, &out[..at])
+}
+
+// What was written goes out where the buffer is half full.
+fn flushed(m: Machine, room: usize, out: &[u8]) -> Machine {
+    if m.at < room {
+        return m;
+    }
+    sent(out, m.at);
+    let mut next = m;
+    next.at = 0;
+    next
+}
+
+fn line(m: Machine, s: &[u8], data: &mut [u8], out: &mut [u8]) -> Machine {
+    if s.len() == 0 {
+        return m;
+    }
+    let next = answered(m, s[0], s, data, out);
+    flushed(next, 32768, out)
+}
+
+// The place of the next line feed in the first `n` bytes from a place on, or `n`.
+fn line_end(s: &[u8], at: usize, n: usize) -> usize
+    requires { ⌜ (at ≤ n) × (n ≤ length (now s)) ⌝ }
+    ensures { λ r. ⌜ (at ≤ r) × (r ≤ n) ⌝ }
+{
+    let mut i = at;
+    while i < n {
+        if s[i] == b'\n' {
+            return i;
+        }
+        i += 1;
+    }
+    i
+}
+
+// What a run over the lines at hand leaves: the machine, and how many bytes were whole lines.
+struct Done {
+    machine: Machine,
+    used: usize,
+}
+
+// Every whole line in the first `n` bytes, and the last one without its end where the input has ended.
+fn lines(m: Machine, s: &[u8], n: usize, last: bool, data: &mut [u8], out: &mut [u8]) -> Done
+    requires { ⌜ n ≤ length (now s) ⌝ }
+    ensures { λ r. ⌜ r .used ≤ n ⌝ }
+{
+    let mut machine = m;
+    let mut at = 0;
+    while at < n {
+        let end = line_end(s, at, n);
+        if end == n {
+            if last {
+                machine = line(machine, &s[at..end], data, out);
+            }
+            return Done { machine, used: at };
+        }
+        let next = end + 1;
+        machine = line(machine, &s[at..end], data, out);
+        at = next;
+    }
+    Done { machine, used: at }
+}
+
+// The bytes from `from` up to `to` moved to the front, and how many there are.
+fn move_down(buf: &mut [u8], from: usize, to: usize) -> usize
+    requires { ⌜ (from ≤ to) × (to ≤ length (now buf)) ⌝ }
+    ensures { λ r. ⌜ r ≤ length (now (buf .exit)) ⌝ }
+{
+    let n = to - from;
+    let mut i = 0;
+    while i < n {
+        buf[i] = buf[from + i];
+        i += 1;
+    }
+    i
+}
+
+// What is carried from one read to the next: the machine, and how many bytes at the front are no whole line yet.
+struct State {
+    machine: Machine,
+    have: usize,
+    going: bool,
+}
+
+// One read, and the lines that are whole then. A line longer than the buffer ends the run.
+fn turn(st: State, input: &mut [u8], data: &mut [u8], out: &mut [u8]) -> State
+    requires { ⌜ st .have ≤ length (now input) ⌝ }
+    ensures { λ r. ⌜ r .have ≤ length (now (input .exit)) ⌝ }
+{
+    let have = st.have;
+    let machine = st.machine;
+    let got = io::read_full(STDIN_FILENO, &mut input[have..]);
+    let n = have + got;
+    let done = lines(machine, input, n, got == 0, data, out);
+    let used = done.used;
+    let next = done.machine;
+    let left = move_down(input, used, n);
+    State {
+        machine: next,
+        have: left,
+        going: got != 0,
+    }
+}
+
+// A proved loop has to end, and nothing says that the input does: the turns are counted down from a number that no run uses up.
+fn run(input: &mut [u8], data: &mut [u8], out: &mut [u8]) {
+    let none = SignalIdsEngine::new(0.0, 0.0);
+    let engine = none.engine;
+    let mut st = State {
+        machine: Machine {
+            detector: EwmaDetector::idle(),
+            has_detector: false,
+            engine,
+            has_engine: false,
+            at: 0,
+        },
+        have: 0,
+        going: true,
+    };
+    let mut turns = u64::MAX;
+    while turns > 0 {
+        if !st.going {
+            let machine = st.machine;
+            flushed(machine, 0, out);
+            return;
+        }
+        st = turn(st, input, data, out);
+        turns -= 1;
+    }
+}
+
+fn main() {
+    let mut input = io::large_buffer();
+    let mut data = io::buffer();
+    let mut out = io::large_buffer();
+    run(&mut input, &mut data, &mut out);
+}

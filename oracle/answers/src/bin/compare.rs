@@ -1,0 +1,200 @@
+//! Holds the two programs beside the Rust: scripts of library calls, and logs. Stops at the first difference, which it makes small.
+
+use answers::{framelog, generate as g, Both};
+use std::io::Write;
+use std::path::{Path, PathBuf};
+use std::process::{exit, Command, Stdio};
+use std::time::{Duration, Instant};
+
+struct Asked {
+    seconds: Option<u64>,
+    cases: Option<u64>,
+    seed: u64,
+}
+
+fn asked() -> Asked {
+    let mut a = Asked { seconds: None, cases: None, seed: 1 };
+    let words: Vec<String> = std::env::args().skip(1).collect();
+    for pair in words.chunks(2) {
+        let n = pair.get(1).and_then(|n| n.parse().ok());
+        match (pair[0].as_str(), n) {
+            ("--seconds", Some(n)) => a.seconds = Some(n),
+            ("--cases", Some(n)) => a.cases = Some(n),
+            ("--seed", Some(n)) => a.seed = n,
+            _ => {
+                eprintln!("usage: compare [--seconds N] [--cases N] [--seed N]");
+                exit(2);
+            }
+        }
+    }
+    a
+}
+
+/// The program's output on an input, which goes by way of a file.
+fn output(program: &Path, input: &[u8], scratch: &Path) -> Vec<u8> {
+    std::fs::write(scratch, input).expect("the scratch file is written");
+    let file = std::fs::File::open(scratch).expect("the scratch file is read");
+    let done = Command::new(program).stdin(Stdio::from(file)).stderr(Stdio::inherit()).output();
+    done.unwrap_or_else(|e| panic!("{}: {e}: build it first", program.display())).stdout
+}
+
+fn answers_of(script: &str) -> String {
+    let mut both = Both::default();
+    let mut out = String::new();
+    for line in script.lines() {
+        both.answer(line, true, &mut out);
+    }
+    out
+}
+
+fn log_of(log: &[u8]) -> Vec<u8> {
+    let mut out = Vec::new();
+    framelog::run(log, &mut out);
+    out
+}
+
+/// The least part of the items, by halves and then one by one, for which the test still holds.
+fn smallest<T: Clone>(items: Vec<T>, differs: impl Fn(&[T]) -> bool) -> Vec<T> {
+    let (mut low, mut high) = (0, items.len());
+    while low < high {
+        let middle = (low + high) / 2;
+        if differs(&items[..middle]) {
+            high = middle;
+        } else {
+            low = middle + 1;
+        }
+    }
+    let mut kept = items[..high].to_vec();
+    let mut size = kept.len().div_ceil(2).max(1);
+    loop {
+        let mut at = 0;
+        while at < kept.len() {
+            let mut fewer = kept.clone();
+            fewer.drain(at..(at + size).min(kept.len()));
+            if differs(&fewer) {
+                kept = fewer;
+            } else {
+                at += size;
+            }
+        }
+        if size == 1 {
+            return kept;
+        }
+        size = size.div_ceil(2);
+    }
+}
+
+struct Bench {
+    replay: PathBuf,
+    framelog: PathBuf,
+    scratch: PathBuf,
+    calls: u64,
+    records: u64,
+    logs: u64,
+}
+
+impl Bench {
+    fn script(&mut self, script: &str) {
+        self.calls += script.lines().count() as u64;
+        let differs = |s: &str| output(&self.replay, s.as_bytes(), &self.scratch) != answers_of(s).as_bytes();
+        if !differs(script) {
+            return;
+        }
+        let lines: Vec<String> = script.lines().map(|l| format!("{l}\n")).collect();
+        let least = smallest(lines, |l| differs(&l.concat())).concat();
+        println!("DIFFERENT on this script:\n{least}");
+        println!("the Rust and the model:\n{}", answers_of(&least));
+        println!("this:\n{}", String::from_utf8_lossy(&output(&self.replay, least.as_bytes(), &self.scratch)));
+        exit(1);
+    }
+
+    fn log(&mut self, log: &[u8], records: u64) {
+        self.logs += 1;
+        self.records += records;
+        let differs = |l: &[u8]| output(&self.framelog, l, &self.scratch) != log_of(l);
+        if !differs(log) {
+            return;
+        }
+        let least = smallest(log.to_vec(), differs);
+        println!("DIFFERENT on this log: {}", answers::bytes(&least));
+        println!("the Rust:\n{}", String::from_utf8_lossy(&log_of(&least)));
+        println!("this:\n{}", String::from_utf8_lossy(&output(&self.framelog, &least, &self.scratch)));
+        exit(1);
+    }
+
+    /// The cases that are the same in every run.
+    fn fixed(&mut self) {
+        let mut d = g::Dice::new(0);
+        let mut out = String::new();
+        g::every_place(&mut out, &mut d);
+        g::conversions(&mut out, &mut d, 0);
+        g::values(&mut out, &mut d, 0);
+        g::roots(&mut out, &mut d, 0);
+        g::every_setting(&mut out, 1);
+        g::every_refusal(&mut out, true);
+        g::last_slots(&mut out);
+        g::crowds(&mut out, &mut d);
+        self.script(&out);
+        let whole = g::log(&mut d, 24);
+        for cut in 0..=whole.len() {
+            self.log(&whole[..cut], 24);
+        }
+    }
+
+    fn round(&mut self, seed: u64) {
+        let mut d = g::Dice::new(seed);
+        let mut out = String::new();
+        g::places(&mut out, &mut d, 20_000);
+        g::values(&mut out, &mut d, 10_000);
+        g::conversions(&mut out, &mut d, 2_000);
+        g::roots(&mut out, &mut d, 1_000);
+        g::detectors(&mut out, &mut d, 20_000);
+        g::engines(&mut out, &mut d, 20_000, 12);
+        self.script(&out);
+        let long = g::log(&mut d, 5_000);
+        self.log(&long, 5_000);
+        for _ in 0..40 {
+            let records = 1 + d.below(60);
+            let mut short = g::log(&mut d, records as usize);
+            for _ in 0..=d.below(3) {
+                if !short.is_empty() {
+                    g::damage(&mut d, &mut short);
+                }
+            }
+            self.log(&short, records);
+        }
+    }
+
+    fn say(&self, since: Instant) {
+        println!("compared {} calls, {} logs of {} records, no difference ({} s)", self.calls, self.logs, self.records, since.elapsed().as_secs());
+        let _ = std::io::stdout().flush();
+    }
+}
+
+fn main() {
+    let asked = asked();
+    let bin = Path::new(env!("CARGO_MANIFEST_DIR")).join("../../target/bin");
+    let scratch = std::env::temp_dir().join(format!("compare-{}", std::process::id()));
+    let mut b = Bench { replay: bin.join("replay"), framelog: bin.join("framelog"), scratch, calls: 0, records: 0, logs: 0 };
+    let since = Instant::now();
+    let mut said = since;
+    b.fixed();
+    let (mut seed, mut rounds) = (asked.seed, 0);
+    loop {
+        let late = asked.seconds.is_some_and(|s| since.elapsed().as_secs() >= s);
+        let enough = asked.cases.is_some_and(|c| b.calls >= c);
+        if late || enough || (asked.seconds.is_none() && asked.cases.is_none() && rounds > 0) {
+            break;
+        }
+        b.round(seed);
+        seed += 1;
+        rounds += 1;
+        if said.elapsed() > Duration::from_secs(10) {
+            said = Instant::now();
+            b.say(since);
+        }
+    }
+    b.say(since);
+    println!("seeds {} to {}", asked.seed, seed.max(asked.seed + 1) - 1);
+    let _ = std::fs::remove_file(&b.scratch);
+}

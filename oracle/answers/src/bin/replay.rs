@@ -1,0 +1,17 @@
+//! Answers a script of calls on standard input: the unchanged Rust, and on lines of their own (`w`, `v`, `p`) the plain model.
+//! With `--rust` the model's lines are left out.
+
+use answers::Both;
+use std::io::{BufRead, BufWriter, Write};
+
+fn main() {
+    let with_model = std::env::args().all(|a| a != "--rust");
+    let mut both = Both::default();
+    let mut out = BufWriter::new(std::io::stdout().lock());
+    let mut text = String::new();
+    for line in std::io::stdin().lock().lines() {
+        text.clear();
+        both.answer(&line.expect("a line"), with_model, &mut text);
+        out.write_all(text.as_bytes()).expect("written");
+    }
+}

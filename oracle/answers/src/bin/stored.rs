@@ -1,0 +1,20 @@
+//! Prints the script that crates/replay keeps: the short cases of every kind, from one seed.
+
+use answers::generate as g;
+
+fn main() {
+    let mut d = g::Dice::new(1);
+    let mut out = String::new();
+    g::every_place(&mut out, &mut d);
+    g::places(&mut out, &mut d, 600);
+    g::conversions(&mut out, &mut d, 100);
+    g::values(&mut out, &mut d, 200);
+    g::roots(&mut out, &mut d, 60);
+    g::every_setting(&mut out, 19);
+    g::detectors(&mut out, &mut d, 600);
+    g::every_refusal(&mut out, false);
+    g::last_slots(&mut out);
+    g::crowds(&mut out, &mut d);
+    g::engines(&mut out, &mut d, 700, 60);
+    print!("{out}");
+}

@@ -1,0 +1,506 @@
+//! Scripts and logs that aim at the limits, from a seed.
+
+use std::fmt::Write;
+
+/// A small generator of numbers (xorshift with a multiplication), so that a seed gives the same cases everywhere.
+pub struct Dice(u64);
+
+impl Dice {
+    /// From a seed.
+    pub fn new(seed: u64) -> Self {
+        let mut d = Dice(seed.wrapping_mul(0x9E37_79B9_7F4A_7C15) ^ 0xD1B5_4A32_D192_ED03);
+        d.next();
+        d
+    }
+
+    /// 64 bits.
+    pub fn next(&mut self) -> u64 {
+        self.0 |= (self.0 == 0) as u64;
+        self.0 ^= self.0 >> 12;
+        self.0 ^= self.0 << 25;
+        self.0 ^= self.0 >> 27;
+        self.0.wrapping_mul(0x2545_F491_4F6C_DD1D)
+    }
+
+    /// A number below n.
+    pub fn below(&mut self, n: u64) -> u64 {
+        (self.next() >> 11) % n
+    }
+
+    /// True once in n.
+    pub fn one_in(&mut self, n: u64) -> bool {
+        self.below(n) == 0
+    }
+
+    /// One of the numbers.
+    pub fn of(&mut self, all: &[u64]) -> u64 {
+        all[self.below(all.len() as u64) as usize]
+    }
+
+    fn bytes(&mut self, n: usize) -> Vec<u8> {
+        let style = self.below(4);
+        (0..n)
+            .map(|_| match style {
+                0 => 0,
+                1 => 0xFF,
+                _ => self.next() as u8,
+            })
+            .collect()
+    }
+}
+
+/// Patterns of f32 of every kind: zeros, subnormals, normals at their ends, powers and neighbours, infinities, NaNs.
+pub const FLOATS: [u64; 40] = [
+    0, 0x8000_0000, 1, 0x8000_0001, 0x007F_FFFF, 0x0080_0000, 0x0080_0001, 0x8080_0000, 0x3400_0000, 0x3586_37BD, 0x3F00_0000,
+    0x3F7F_FFFF, 0x3F80_0000, 0x3F80_0001, 0xBF80_0000, 0x4000_0000, 0x4040_0000, 0x4120_0000, 0xC2C8_0000, 0x4480_0000, 0x4B7F_FFFF,
+    0x4B80_0000, 0x4B80_0001, 0x5F00_0000, 0x5F80_0000, 0x7140_0000, 0x7E80_0000, 0x7F00_0000, 0x7F7F_FFFF, 0xFF7F_FFFF, 0x7F80_0000,
+    0xFF80_0000, 0x7FC0_0000, 0xFFC0_0000, 0x7F80_0001, 0x7FFF_FFFF, 0x3DCC_CCCD, 0x3E80_0000, 0x2B8C_BCCC, 0x1E3C_E508,
+];
+
+fn any_float(d: &mut Dice) -> u64 {
+    match d.below(6) {
+        0 | 1 => d.of(&FLOATS),
+        2 => d.next() & 0xFFFF_FFFF,
+        3 => (d.below(200) as f32 / 4.0 - 20.0).to_bits() as u64,
+        4 => (d.below(1 << 30) as f32).to_bits() as u64,
+        _ => 0x3F80_0000 + d.below(0x0400_0000),
+    }
+}
+
+fn hex(data: &[u8]) -> String {
+    crate::bytes(data)
+}
+
+/// A start, a length, the bytes and their data_len for a signal, near the borders of what fits.
+fn place(d: &mut Dice) -> (u64, u64, u64, Vec<u8>) {
+    let n = match d.below(8) {
+        0 => d.below(4),
+        1 => d.of(&[9, 16, 63, 64, 65, 100]),
+        2 => d.below(72),
+        _ => 8,
+    };
+    let data = d.bytes(n as usize);
+    let length = match d.below(10) {
+        0 => d.of(&[0, 1, 63, 64, 65, 66, 127, 128, 255]),
+        1 => d.below(256),
+        2 => 8 * (1 + d.below(8)),
+        _ => 1 + d.below(64),
+    };
+    let start = match d.below(10) {
+        0 => d.below(65536),
+        1 => d.of(&[0, 7, 8, 15, 56, 63, 64, 65528, 65535]),
+        2 => 8 * d.below(n + 1),
+        3 => (8 * n).saturating_sub(length),
+        4 => 8 * d.below(n + 1) + 7,
+        _ => d.below(8 * n + 2),
+    };
+    let data_len = match d.below(8) {
+        0 => d.below(n + 1),
+        1 => n + 1 + d.below(3),
+        2 => d.of(&[0, 1, u64::MAX, 1 << 61, (1 << 61) + 1, 1 << 63, 0x2000_0000_0000_0001]),
+        _ => n,
+    };
+    (start, length, data_len, data)
+}
+
+/// Every order, start and length on eight bytes, read and written, in full.
+pub fn every_place(out: &mut String, d: &mut Dice) {
+    for order in 0..2 {
+        for start in 0..65u64 {
+            for length in 0..=65u64 {
+                let data = d.next().to_be_bytes();
+                let _ = writeln!(out, "r {order} {start:X} {length:X} 8 {}", hex(&data));
+                let raw = if length < 64 { d.next() % (1 << length.max(1)) } else { d.next() };
+                let raw = if d.one_in(16) { raw.wrapping_add(1 << (length % 64)) } else { raw };
+                let _ = writeln!(out, "w {order} {start:X} {length:X} 8 {raw:X} {}", hex(&data));
+            }
+        }
+        for length in 65..=255u64 {
+            let _ = writeln!(out, "r {order} 0 {length:X} 40 {}", hex(&d.bytes(64)));
+            let _ = writeln!(out, "w {order} 7 {length:X} 40 0 {}", hex(&d.bytes(64)));
+        }
+        for n in 0..=9usize {
+            for data_len in 0..=10u64 {
+                for (start, length) in [(0, 8), (7, 8), (4, 12), (0, 64), (7, 64), (63, 1), (56, 8)] {
+                    let data = d.bytes(n);
+                    let _ = writeln!(out, "r {order} {start:X} {length:X} {data_len:X} {}", hex(&data));
+                    let _ = writeln!(out, "w {order} {start:X} {length:X} {data_len:X} 1 {}", hex(&data));
+                }
+            }
+        }
+    }
+}
+
+/// Reads and writes at random.
+pub fn places(out: &mut String, d: &mut Dice, calls: usize) {
+    for _ in 0..calls {
+        let (start, length, n, data) = place(d);
+        let order = d.below(2);
+        if d.one_in(2) {
+            let _ = writeln!(out, "r {order} {start:X} {length:X} {n:X} {}", hex(&data));
+        } else {
+            let bits = d.below(66) as u32;
+            let raw = d.next() >> 1 >> (63 - bits.min(63));
+            let raw = if d.one_in(8) { 1u64.checked_shl(length as u32).unwrap_or(0) } else { raw };
+            let _ = writeln!(out, "w {order} {start:X} {length:X} {n:X} {raw:X} {}", hex(&data));
+        }
+    }
+}
+
+/// The conversion at and around every power of two and every tie near 24 binary digits, and at random.
+pub fn conversions(out: &mut String, d: &mut Dice, calls: usize) {
+    let both = |out: &mut String, x: u64| {
+        let _ = writeln!(out, "n {x:X}\ni {x:X}\ni {:X}", x.wrapping_neg());
+    };
+    for k in 0..64 {
+        for near in [0u64, 1, 2, 3, u64::MAX, u64::MAX - 1, u64::MAX - 2] {
+            both(out, (1u64 << k).wrapping_add(near));
+        }
+        if k >= 24 {
+            let half = 1u64 << (k - 24);
+            for odd in [0, 1, 0x7F_FFFF, 0x40_0000, 0x7F_FFFE] {
+                for near in [0, 1, u64::MAX] {
+                    both(out, ((1u64 << k) + 2 * odd * half + half).wrapping_add(near));
+                }
+            }
+        }
+    }
+    for _ in 0..calls {
+        let x = d.next() >> d.below(64);
+        both(out, x);
+    }
+}
+
+/// The square root at every kind of float and at random.
+pub fn roots(out: &mut String, d: &mut Dice, calls: usize) {
+    for x in FLOATS {
+        let _ = writeln!(out, "q {x:X}");
+    }
+    for _ in 0..calls {
+        let _ = writeln!(out, "q {:X}", any_float(d));
+    }
+}
+
+fn definition(d: &mut Dice, ids: &[u64], wild: bool) -> String {
+    let extended = d.below(2);
+    let (start, mut length, _, _) = place(d);
+    let id = if wild && d.one_in(8) {
+        d.of(&[0x7FF, 0x800, 0x1FFF_FFFF, 0x2000_0000, 0xFFFF_FFFF, 0])
+    } else {
+        d.of(ids)
+    };
+    let multiplexor = d.one_in(6) as u64;
+    let signed = d.below(2);
+    if !wild || !d.one_in(6) {
+        length = if multiplexor == 1 { 2 + length % 15 } else { 2 + length % 63 };
+    }
+    let start = if d.one_in(6) { start } else { start % 64 };
+    let (scale, offset) = if wild && d.one_in(4) {
+        (any_float(d), any_float(d))
+    } else {
+        (d.of(&[0x3F80_0000, 0x3F80_0000, 0x3F00_0000, 0x4120_0000, 0xBF80_0000, 0, 0x3C23_D70A]), d.of(&[0, 0, 0x8000_0000, 0xC220_0000, 0x42C8_0000]))
+    };
+    let condition = if d.one_in(4) { 0x10000 + d.of(&[0, 1, 2, 3, 255, 65535]) } else { 0 };
+    format!("{id:X} {extended:X} {start:X} {length:X} {:X} {scale:X} {offset:X} {:X} {signed:X} {multiplexor:X} {condition:X}", d.below(2), d.next() >> 32)
+}
+
+/// Physical values: extremes of every length, signed and not, and scales and offsets of every kind.
+pub fn values(out: &mut String, d: &mut Dice, calls: usize) {
+    for length in 1..=64u64 {
+        for signed in 0..2 {
+            for pattern in [0u64, u64::MAX, 1 << (length - 1), (1 << (length - 1)) - 1, 1] {
+                for (scale, offset) in [(0x3F80_0000u64, 0u64), (0x7F7F_FFFF, 0), (0xBF80_0000, 0x7F7F_FFFF), (1, 0x8000_0000), (0x3586_37BD, 0x4480_0000)] {
+                    let _ = writeln!(out, "x 0 0 0 {length:X} 0 {scale:X} {offset:X} 0 {signed} 0 0 8 {}", hex(&pattern.to_le_bytes()));
+                }
+            }
+        }
+    }
+    for scale in FLOATS {
+        for offset in FLOATS {
+            let _ = writeln!(out, "x 0 0 7 C 1 {scale:X} {offset:X} 0 1 0 0 8 {}", hex(&d.next().to_be_bytes()));
+        }
+    }
+    for _ in 0..calls {
+        let text = definition(d, &[0, 1, 2], true);
+        let (_, _, n, data) = place(d);
+        let text = if d.one_in(2) {
+            let fields: Vec<&str> = text.split(' ').collect();
+            let (scale, offset) = (any_float(d), any_float(d));
+            format!("{} {scale:X} {offset:X} {}", fields[..5].join(" "), fields[7..].join(" "))
+        } else {
+            text
+        };
+        let _ = writeln!(out, "x {text} {n:X} {}", hex(&data));
+    }
+}
+
+/// Every kind of float in every argument of a detector's calls, beside every `step`th other one.
+pub fn every_setting(out: &mut String, step: usize) {
+    for x in FLOATS {
+        for y in [0x3F00_0000, 0x3F80_0000, x] {
+            let _ = writeln!(out, "a {x:X} {y:X}\na {y:X} {x:X}");
+        }
+    }
+    for (i, x) in FLOATS.into_iter().enumerate() {
+        for y in FLOATS.into_iter().skip(i % step).step_by(step) {
+            let _ = writeln!(out, "o 3E800000 40400000 2 1\nu {x:X}\nu {y:X}\nu {x:X}\nc {y:X}\nu {x:X}\nu 0");
+        }
+    }
+}
+
+/// Long sequences of samples.
+pub fn detectors(out: &mut String, d: &mut Dice, calls: usize) {
+    let mut left = calls as i64;
+    while left > 0 {
+        let alpha = d.of(&[0x3F00_0000, 0x3E80_0000, 0x3DCC_CCCD, 0x3F80_0000, 1, 0x0080_0000, 0x3F7F_FFFF]);
+        let threshold = d.of(&[0, 0x4040_0000, 0x3F80_0000, 0x7F7F_FFFF, 0x8000_0000, 0x4120_0000]);
+        let freeze = d.of(&[0, 1, 3, 10, 10, 0xFFFF_FFFF]);
+        let warmup = d.of(&[0, 1, 5, 5, 20, 0xFFFF_FFFF]);
+        let _ = if d.one_in(3) {
+            writeln!(out, "a {alpha:X} {threshold:X}")
+        } else {
+            writeln!(out, "o {alpha:X} {threshold:X} {freeze:X} {warmup:X}")
+        };
+        let style = d.below(6);
+        let base = any_float(d);
+        let steps = 1 + d.below(60);
+        for _ in 0..steps {
+            let _ = match d.below(40) {
+                0 => writeln!(out, "z {:X}", d.of(&[0, 1, 2, 10, 0xFFFF_FFFF])),
+                1 => writeln!(out, "c {:X}", any_float(d)),
+                2 => writeln!(out, "u {:X}", any_float(d)),
+                _ => {
+                    let x = match style {
+                        0 => base,
+                        1 => any_float(d),
+                        2 => base.wrapping_add(d.below(3)) & 0xFFFF_FFFF,
+                        3 => ((d.below(100) as f32) / 8.0).to_bits() as u64,
+                        4 => d.of(&[0x7F7F_FFFF, 0xFF7F_FFFF, 0, 0x8000_0000]),
+                        _ => d.of(&[0x41A0_0000, 0x41A0_0000, 0x41A8_0000, 0x447A_0000]),
+                    };
+                    writeln!(out, "u {x:X}")
+                }
+            };
+        }
+        left -= steps as i64;
+    }
+}
+
+fn ids(d: &mut Dice) -> Vec<u64> {
+    let n = 1 + d.below(12);
+    (0..n).map(|_| if d.one_in(4) { d.of(&[0, 1, 0x7FF, 0x100]) } else { d.below(0x800) }).collect()
+}
+
+/// Table calls and frames on one engine; the whole table is shown once in so many calls.
+pub fn engines(out: &mut String, d: &mut Dice, calls: usize, shows: u64) {
+    let mut left = calls as i64;
+    while left > 0 {
+        let (alpha, threshold) = if d.one_in(20) { (any_float(d), any_float(d)) } else { (d.of(&[0x3F00_0000, 0x3DCC_CCCD, 0x3F80_0000]), d.of(&[0x4040_0000, 0, 0x3F80_0000])) };
+        let _ = writeln!(out, "e {alpha:X} {threshold:X}");
+        let ids = ids(d);
+        if d.one_in(6) {
+            let _ = writeln!(out, "y {:X}", d.of(&[1, 3, 63, 64, 200]));
+        }
+        let steps = 20 + d.below(200);
+        let wild = d.one_in(2);
+        let table = d.of(&[2, 6, 20]);
+        for _ in 0..steps {
+            if d.one_in(table) {
+                table_call(out, d, &ids, wild);
+            } else {
+                frame(out, d, &ids);
+            }
+            if d.one_in(shows) {
+                out.push_str("s\n");
+            }
+        }
+        out.push_str("s\n");
+        left -= steps as i64;
+    }
+}
+
+fn table_call(out: &mut String, d: &mut Dice, ids: &[u64], wild: bool) {
+    match d.below(8) {
+        0 | 1 => {
+            let _ = writeln!(out, "m {:X}", if d.one_in(10) { d.below(65536) } else { d.below(40) });
+        }
+        2 | 3 => {
+            let n = d.of(&[0, 1, 2, 3, 8, 20, 63, 64, 65]);
+            let _ = write!(out, "b {n:X}");
+            let bad = d.below(n.max(1) * 2);
+            for i in 0..n {
+                let text = definition(d, ids, wild && i == bad);
+                let _ = write!(out, " {text}");
+            }
+            out.push('\n');
+        }
+        _ => {
+            let text = definition(d, ids, wild);
+            let _ = writeln!(out, "d {text}");
+        }
+    }
+}
+
+fn frame(out: &mut String, d: &mut Dice, ids: &[u64]) {
+    let id = if d.one_in(8) { d.of(&[0x900, 0x7FF, 0, 0xFFFF_FFFF]) } else { d.of(ids) };
+    let data = match d.below(4) {
+        0 => d.bytes(8),
+        1 => vec![d.below(4) as u8; 8],
+        _ => (0..8).map(|i| if i < 2 { d.below(4) as u8 } else { 0 }).collect(),
+    };
+    if d.one_in(4) {
+        let n = d.of(&[0, 1, 8, 8, 8, 9, 64, 300]) as usize;
+        let data: Vec<u8> = data.iter().cycle().take(n).copied().collect();
+        let len = if d.one_in(3) { d.below(n as u64 + 3) } else { n as u64 };
+        let _ = writeln!(out, "g {id:X} {len:X} {}", hex(&data));
+    } else {
+        let id = if d.one_in(6) { id + 0x800 * d.below(4) } else { id };
+        let id = if d.one_in(6) { id + (d.below(8) << 29) } else { id };
+        let length = if d.one_in(4) { d.of(&[0, 1, 2, 3, 4, 5, 6, 7, 9, 12, 15, 255]) } else { 8 };
+        let _ = writeln!(out, "f {:X} {} {length:X} {}", id & 0xFFFF_FFFF, d.below(2), hex(&data));
+    }
+}
+
+/// More than eight anomalies in a frame, and one definition at each place of a full table.
+pub fn crowds(out: &mut String, d: &mut Dice) {
+    out.push_str("e 3F000000 3F800000\n");
+    for i in 0..64u64 {
+        let _ = writeln!(out, "d {:X} 0 {:X} 4 0 3F800000 0 {i:X} 0 0 0", 0x100 + i / 20, (4 * i) % 64);
+    }
+    for k in 0..14u64 {
+        let byte = if k == 8 { 0xFF } else { 0 };
+        for id in 0x100..0x104 {
+            let _ = writeln!(out, "f {id:X} 0 8 {}", hex(&[byte; 8]));
+        }
+    }
+    out.push_str("s\n");
+    for slot in 0..64u64 {
+        let _ = writeln!(out, "m {:X}", (slot * 37) % 64);
+        if d.one_in(3) {
+            let _ = writeln!(out, "d 102 {} 0 8 0 3F800000 0 0 0 0 0", slot % 2);
+        }
+        if slot % 16 == 7 {
+            out.push_str("s\n");
+        }
+    }
+}
+
+/// The marked run: at next slot 65,534 a batch of two gets 65,534 and 65,535, and define is then refused.
+pub fn last_slots(out: &mut String) {
+    let def = "100 0 0 8 0 3F800000 0 0 0 0 0";
+    for (passes, batch) in [(65534u64, 2u64), (65534, 1), (65533, 3), (65534, 3), (65535, 1), (65535, 0), (65533, 1)] {
+        let _ = writeln!(out, "e 3F000000 40400000\ny {passes:X}");
+        let _ = write!(out, "b {batch:X}");
+        for _ in 0..batch {
+            let _ = write!(out, " {def}");
+        }
+        let _ = writeln!(out, "\ns\nd {def}\nb 0\nb 1 {def}\ns\nm FFFE\nm FFFF\ns");
+    }
+}
+
+/// Every refusal at every place of a batch; the whole table is shown after each call, or seldom.
+pub fn every_refusal(out: &mut String, often: bool) {
+    let show = if often { "\ns\n" } else { "\n" };
+    let good = "100 0 0 8 0 3F800000 0 0 0 0 0";
+    let bad = [
+        "100 0 0 0 0 7F800000 0 0 0 0 0", "100 0 0 41 0 3F800000 0 0 0 0 0", "100 0 0 8 0 7FC00000 0 0 0 0 0", "800 0 0 8 0 3F800000 FF800000 0 0 0 0",
+        "800 0 0 8 0 3F800000 0 0 0 0 0", "20000000 1 0 8 0 3F800000 0 0 0 0 0", "100 0 0 11 0 3F800000 0 0 0 1 0", "100 0 0 1 0 3F800000 0 0 1 0 0",
+        "1FFFFFFF 1 0 10 0 3F800000 0 0 0 1 1FFFF", "7FF 0 0 2 1 0 0 0 1 0 0",
+    ];
+    for first in 0..3u64 {
+        out.push_str("e 3F000000 40400000\n");
+        for _ in 0..first {
+            let _ = writeln!(out, "d {good}");
+        }
+        for (i, a) in bad.iter().enumerate() {
+            let _ = writeln!(out, "d {a}");
+            for place in 0..4 {
+                let b = bad[(i + 3) % bad.len()];
+                let _ = write!(out, "b 4");
+                for k in 0..4 {
+                    let _ = write!(out, " {}", if k == place { a } else if k > place { b } else { good });
+                }
+                out.push_str(show);
+            }
+        }
+        out.push_str("s\n");
+        for n in [61u64, 62, 63, 64, 65] {
+            let _ = write!(out, "b {n:X}");
+            for k in 0..n {
+                let _ = write!(out, " {}", if k == 60 { bad[0] } else { good });
+            }
+            out.push_str(show);
+            let _ = write!(out, "b {n:X}");
+            for _ in 0..n {
+                let _ = write!(out, " {good}");
+            }
+            out.push_str(show);
+            out.push_str("b 0\n");
+            let _ = writeln!(out, "d {}\nd {good}", bad[0]);
+        }
+    }
+}
+
+fn push_definition(log: &mut Vec<u8>, d: &mut Dice, ids: &[u64], wild: bool) {
+    let text = definition(d, ids, wild);
+    let f: Vec<u64> = text.split(' ').map(|x| u64::from_str_radix(x, 16).expect("a number")).collect();
+    let flags = f[1] | f[4] << 1 | f[8] << 2 | f[9] << 3 | ((f[10] != 0) as u64) << 4;
+    log.extend([0xA5, 0x44]);
+    log.extend((f[0] as u32).to_le_bytes());
+    log.push(flags as u8);
+    log.extend((f[2] as u16).to_le_bytes());
+    log.push(f[3] as u8);
+    for x in [f[5], f[6], f[7]] {
+        log.extend((x as u32).to_le_bytes());
+    }
+    log.extend((f[10] as u16).to_le_bytes());
+}
+
+fn push_frame(log: &mut Vec<u8>, d: &mut Dice, ids: &[u64]) {
+    let id = if d.one_in(8) { d.next() } else { d.of(ids) };
+    let quiet = !d.one_in(12);
+    log.extend([0xA5, 0x46, d.below(2) as u8, if d.one_in(6) { d.below(16) as u8 } else { 8 }]);
+    log.extend((id as u32).to_le_bytes());
+    for _ in 0..8 {
+        log.push(if quiet { d.below(2) as u8 } else { d.next() as u8 });
+    }
+}
+
+/// A sound log of some records: settings, then definitions, removals and frames.
+pub fn log(d: &mut Dice, records: usize) -> Vec<u8> {
+    let mut log = vec![0xA5, 0x50];
+    log.extend((d.of(&[0x3F00_0000, 0x3DCC_CCCD, 0x3F80_0000]) as u32).to_le_bytes());
+    log.extend((d.of(&[0x4040_0000, 0x3F80_0000, 0x4000_0000]) as u32).to_le_bytes());
+    let ids = ids(d);
+    let table = d.of(&[2, 8, 40, 200]);
+    let wild = d.one_in(2);
+    for i in 1..records {
+        if i < 20 || d.one_in(table) {
+            if d.one_in(4) {
+                log.extend([0xA5, 0x52]);
+                log.extend((d.below(40) as u16).to_le_bytes());
+            } else {
+                push_definition(&mut log, d, &ids, wild);
+            }
+        } else {
+            push_frame(&mut log, d, &ids);
+        }
+    }
+    log
+}
+
+/// A log that came in damaged: cut, a byte changed, bytes lost or doubled.
+pub fn damage(d: &mut Dice, log: &mut Vec<u8>) {
+    let at = d.below(log.len() as u64) as usize;
+    match d.below(6) {
+        0 => log.truncate(at),
+        1 => log[at] ^= 1 << d.below(8),
+        2 => log[at] = d.next() as u8,
+        3 => drop(log.drain(at..(at + 1 + d.below(16) as usize).min(log.len()))),
+        4 => log.insert(at, d.of(&[0, 0xA5, 0x46, 0xFF]) as u8),
+        _ => {
+            let part = log[at..(at + 16).min(log.len())].to_vec();
+            log.splice(at..at, part);
+        }
+    }
+}

@@ -1,0 +1,217 @@
+//! A plain model, written from document 01, of what the Rust has no counterpart for: the writer, the case of a detector's answer, and
+//! the outcome of each definition that applies to a frame. Single extractions and detector steps are the Rust's.
+
+use crate::{bytes, float, Fields};
+use vs_anomaly::{look, EwmaDetector};
+use vs_signal_ids::{extract_signal, extract_signal_raw, ByteOrder, SignalDefinition};
+
+/// The bits of a signal, lowest first, as (byte, bit), or none where the signal stands nowhere.
+fn places(order: ByteOrder, start: u64, length: u64, n: u64) -> Option<Vec<(usize, u32)>> {
+    if !(1..=64).contains(&length) {
+        return None;
+    }
+    let first = match order {
+        ByteOrder::LittleEndian => start,
+        ByteOrder::BigEndian => 8 * (start / 8) + 7 - start % 8,
+    };
+    if (first + length) as u128 > 8 * n as u128 {
+        return None;
+    }
+    let mut all: Vec<(usize, u32)> = (first..first + length)
+        .map(|p| match order {
+            ByteOrder::LittleEndian => ((p / 8) as usize, (p % 8) as u32),
+            ByteOrder::BigEndian => ((p / 8) as usize, (7 - p % 8) as u32),
+        })
+        .collect();
+    if order == ByteOrder::BigEndian {
+        all.reverse();
+    }
+    Some(all)
+}
+
+fn written(f: &mut Fields) -> String {
+    let (order, start, length, data_len, raw) = (f.order(), f.number(), f.number() % 256, f.number(), f.number());
+    let mut data = f.bytes();
+    let number = match places(order, start % 65536, length, data_len.min(data.len() as u64)) {
+        None => 5,
+        Some(_) if length < 64 && raw >> length != 0 => 6,
+        Some(all) => {
+            for (i, (byte, bit)) in all.into_iter().enumerate() {
+                data[byte] = data[byte] & !(1 << bit) | (((raw >> i) & 1) as u8) << bit;
+            }
+            0
+        }
+    };
+    format!("w {number} {}", bytes(&data))
+}
+
+/// What a sample will be to a detector.
+fn case(d: &EwmaDetector, value: f32) -> &'static str {
+    let [count, _, _, _, warmup] = look::numbers(d);
+    if !value.is_finite() {
+        "ignored"
+    } else if count == 0 {
+        "first"
+    } else if count < warmup {
+        "warming"
+    } else {
+        "scored"
+    }
+}
+
+struct Row {
+    slot: u64,
+    definition: SignalDefinition,
+    detector: EwmaDetector,
+}
+
+struct Engine {
+    rows: Vec<Row>,
+    next: u64,
+    fresh: EwmaDetector,
+}
+
+/// The first five tests of document 01's list.
+fn sound(d: &SignalDefinition) -> bool {
+    let most = if d.is_extended { 0x1FFF_FFFF } else { 0x7FF };
+    (1..=64).contains(&d.bit_length)
+        && d.scale.is_finite()
+        && d.offset.is_finite()
+        && d.can_id <= most
+        && !(d.is_multiplexor && d.bit_length > 16)
+        && !(d.signed && d.bit_length < 2)
+}
+
+impl Engine {
+    fn row(&mut self, definition: SignalDefinition) -> Row {
+        let slot = self.next;
+        self.next = (self.next + 1).min(65535);
+        Row { slot, definition, detector: self.fresh }
+    }
+
+    fn define(&mut self, d: SignalDefinition) {
+        if !sound(&d) || self.rows.len() >= 64 || self.next == 65535 {
+            return;
+        }
+        let at = self.rows.iter().filter(|r| r.definition.can_id < d.can_id).count();
+        let row = self.row(d);
+        self.rows.insert(at, row);
+    }
+
+    fn batch(&mut self, defs: Vec<SignalDefinition>) {
+        let n = defs.len() as u64;
+        if self.rows.len() as u64 + n > 64 || !defs.iter().all(sound) || (n > 0 && self.next == 65535) || n > 65535 - self.next + 1 {
+            return;
+        }
+        for d in defs {
+            let row = self.row(d);
+            self.rows.push(row);
+        }
+        self.rows.sort_by_key(|r| r.definition.can_id);
+    }
+
+    fn remove(&mut self, slot: u64) {
+        if let Some(i) = self.rows.iter().position(|r| r.slot == slot) {
+            self.rows.remove(i);
+        }
+    }
+
+    fn outcomes(&mut self, id: u32, extended: bool, data: &[u8], data_len: usize) -> String {
+        let applies = |d: &SignalDefinition| d.can_id == id && d.is_extended == extended;
+        let mux = self
+            .rows
+            .iter()
+            .find(|r| applies(&r.definition) && r.definition.is_multiplexor)
+            .and_then(|r| extract_signal_raw(data, data_len, &r.definition));
+        let mut count = 0;
+        let mut text = String::new();
+        for r in self.rows.iter_mut().filter(|r| applies(&r.definition)) {
+            count += 1;
+            text += &format!(" {:04X}", r.slot);
+            if r.definition.multiplexor_value.is_some_and(|n| mux != Some(n as u64)) {
+                text += " over";
+                continue;
+            }
+            let Some(value) = extract_signal(data, data_len, &r.definition) else {
+                text += " none";
+                continue;
+            };
+            let case = case(&r.detector, value);
+            let score = r.detector.update(value);
+            text += &format!(" {case} {}", float(value));
+            if case == "scored" {
+                let score = score.expect("a score");
+                text += &format!(" {} {}", float(score.z_score), score.is_anomalous as u8);
+            }
+        }
+        format!("p {count:02X}{text}")
+    }
+}
+
+/// The detector and the engine that a script acts on.
+#[derive(Default)]
+pub struct Machine {
+    detector: Option<EwmaDetector>,
+    engine: Option<Engine>,
+}
+
+impl Machine {
+    /// The answer to a call.
+    pub fn answer(&mut self, letter: &str, f: &mut Fields) -> Option<String> {
+        match letter {
+            "w" => return Some(written(f)),
+            "a" => self.detector = EwmaDetector::new(f.float(), f.float()),
+            "o" => self.detector = EwmaDetector::with_options(f.float(), f.float(), f.number() as u32, f.number() as u32),
+            "u" => {
+                let d = self.detector.as_mut()?;
+                let value = f.float();
+                let text = format!("v {}", case(d, value));
+                let _ = d.update(value);
+                return Some(text);
+            }
+            "z" => {
+                let _ = self.detector.as_mut()?.set_freeze_duration(f.number() as u32);
+            }
+            "c" => self.detector.as_mut()?.recalibrate(f.float()),
+            "e" => {
+                let made = EwmaDetector::new(f.float(), f.float());
+                self.engine = made.map(|fresh| Engine { rows: Vec::new(), next: 0, fresh });
+            }
+            "d" => {
+                let d = f.definition();
+                self.engine.as_mut()?.define(d);
+            }
+            "b" => {
+                let n = f.number();
+                let defs = (0..n).map(|_| f.definition()).collect();
+                self.engine.as_mut()?.batch(defs);
+            }
+            "m" => {
+                let slot = f.number();
+                self.engine.as_mut()?.remove(slot);
+            }
+            "y" => {
+                let e = self.engine.as_mut()?;
+                for _ in 0..f.number() {
+                    let before = e.rows.len();
+                    let slot = e.next;
+                    e.define(SignalDefinition::default());
+                    if e.rows.len() > before {
+                        e.remove(slot);
+                    }
+                }
+            }
+            "f" => {
+                let (id, extended, length, data) = (f.number() as u32, f.number() != 0, f.number() as usize, f.bytes());
+                let id = id % if extended { 1 << 29 } else { 1 << 11 };
+                return Some(self.engine.as_mut()?.outcomes(id, extended, &data, length.min(8)));
+            }
+            "g" => {
+                let (id, n, data) = (f.number() as u32, f.number() as usize, f.bytes());
+                return Some(self.engine.as_mut()?.outcomes(id, false, &data, n));
+            }
+            _ => {}
+        }
+        None
+    }
+}

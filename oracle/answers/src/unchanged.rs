@@ -1,0 +1,139 @@
+//! The answers of the unchanged Rust. What the Rust has no counterpart for is left out.
+
+use crate::{definition, detector, float, refusal, Fields};
+use vs_anomaly::{look as inner, EwmaDetector};
+use vs_can_monitor::CanFrame;
+use vs_signal_ids::{extract_signal, extract_signal_raw, look, SignalDefinition, SignalIdsEngine, SignalIdsResult};
+
+fn raw_text(raw: Option<u64>) -> String {
+    raw.map_or("refused 1".to_string(), |x| format!("{x:016X}"))
+}
+
+fn listed(letter: &str, r: &SignalIdsResult) -> String {
+    let mut text = format!("{letter} {:02X}", r.anomaly_count);
+    for a in &r.anomalies {
+        text += &format!(" {:04X} {} {}", a.signal_index, float(a.z_score), float(a.physical_value));
+    }
+    text
+}
+
+fn status<T>(letter: &str, r: Result<T, vs_types::VsError>) -> String {
+    match r {
+        Ok(_) => format!("{letter} ok"),
+        Err(e) => format!("{letter} refused {}", refusal(e)),
+    }
+}
+
+/// The detector and the engine that a script acts on.
+#[derive(Default)]
+pub struct Machine {
+    detector: Option<EwmaDetector>,
+    engine: Option<SignalIdsEngine>,
+}
+
+impl Machine {
+    fn made(&mut self, letter: &str, d: Option<EwmaDetector>) -> String {
+        self.detector = d;
+        match d {
+            Some(d) => format!("{letter} ok{}", detector(&d)),
+            None => format!("{letter} refused 7"),
+        }
+    }
+
+    fn on_detector(&mut self, letter: &str, f: &mut Fields) -> Option<String> {
+        let d = self.detector.as_mut()?;
+        let answer = match letter {
+            "u" => match d.update(f.float()) {
+                Some(s) => format!("{} {}", float(s.z_score), s.is_anomalous as u8),
+                None => "none".to_string(),
+            },
+            "z" => d.set_freeze_duration(f.number() as u32).map_or("refused 8".to_string(), |_| "ok".to_string()),
+            _ => {
+                d.recalibrate(f.float());
+                "ok".to_string()
+            }
+        };
+        Some(format!("{letter} {answer}{}", detector(d)))
+    }
+
+    fn on_engine(&mut self, letter: &str, f: &mut Fields) -> Option<String> {
+        let e = self.engine.as_mut()?;
+        Some(match letter {
+            "d" => match e.define_signal(f.definition()) {
+                Ok(slot) => format!("d slot {slot:04X}"),
+                Err(k) => format!("d refused {}", refusal(k)),
+            },
+            "b" => {
+                let n = f.number();
+                let defs: Vec<SignalDefinition> = (0..n).map(|_| f.definition()).collect();
+                status("b", e.define_signals_batch(&defs))
+            }
+            "m" => status("m", e.remove_signal(f.number() as u16)),
+            "y" => {
+                for _ in 0..f.number() {
+                    if let Ok(slot) = e.define_signal(SignalDefinition::default()) {
+                        let _ = e.remove_signal(slot as u16);
+                    }
+                }
+                format!("y {:04X}", e.next_slot())
+            }
+            "f" => {
+                let (id, extended, length, data) = (f.number() as u32, f.number() != 0, f.number() as u8, f.bytes());
+                let mut frame = CanFrame { id, is_extended: extended, length, data: [0; 8] };
+                frame.data.copy_from_slice(&data);
+                listed("f", &e.process_frame(&frame))
+            }
+            "g" => {
+                let (id, n, data) = (f.number() as u32, f.number() as usize, f.bytes());
+                listed("g", &e.process_raw_frame(id, &data, n))
+            }
+            _ => {
+                let mut text = format!("s {:02X} {:04X}", e.signal_count(), e.next_slot());
+                for i in 0..e.signal_count() {
+                    let (slot, def, det) = look::row(e, i);
+                    text += &format!("\ns {slot:04X}{}{}", definition(&def), detector(&det));
+                }
+                text
+            }
+        })
+    }
+
+    /// The answer to a call.
+    pub fn answer(&mut self, letter: &str, f: &mut Fields) -> Option<String> {
+        match letter {
+            "r" => {
+                let (order, start, length, n) = (f.order(), f.number() as u16, f.number() as u8, f.number() as usize);
+                let def = SignalDefinition { byte_order: order, start_bit: start, bit_length: length, ..Default::default() };
+                Some(format!("r {}", raw_text(extract_signal_raw(&f.bytes(), n, &def))))
+            }
+            "x" => {
+                let (def, n, data) = (f.definition(), f.number() as usize, f.bytes());
+                let value = extract_signal(&data, n, &def).map_or("refused 1".to_string(), float);
+                Some(format!("x {} {value}", raw_text(extract_signal_raw(&data, n, &def))))
+            }
+            "n" => Some(format!("n {}", float(f.number() as f32))),
+            "i" => Some(format!("i {}", float(f.number() as i64 as f32))),
+            "q" => Some(format!("q {}", float(inner::sqrt_approx(f.float())))),
+            "a" => {
+                let d = EwmaDetector::new(f.float(), f.float());
+                Some(self.made("a", d))
+            }
+            "o" => {
+                let d = EwmaDetector::with_options(f.float(), f.float(), f.number() as u32, f.number() as u32);
+                Some(self.made("o", d))
+            }
+            "e" => {
+                let made = SignalIdsEngine::new(f.float(), f.float());
+                let text = match &made {
+                    Ok(_) => "e ok".to_string(),
+                    Err(k) => format!("e refused {}", refusal(*k)),
+                };
+                self.engine = made.ok();
+                Some(text)
+            }
+            "u" | "z" | "c" => self.on_detector(letter, f),
+            "d" | "b" | "m" | "y" | "f" | "g" | "s" => self.on_engine(letter, f),
+            _ => None,
+        }
+    }
+}

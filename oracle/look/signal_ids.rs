@@ -1,0 +1,10 @@
+
+/// Appended by the oracle's build: reads what is private above, and changes nothing.
+pub mod look {
+    use super::{EwmaDetector, SignalDefinition, SignalIdsEngine};
+
+    /// The slot, definition and detector of a live row.
+    pub fn row(e: &SignalIdsEngine, i: usize) -> (u16, SignalDefinition, EwmaDetector) {
+        (e.slot_map[i], e.definitions[i], e.detectors[i])
+    }
+}

@@ -19,7 +19,9 @@ use Rattle.log.specs.declared.stream.Log.{Log}
 use Rattle.log.specs.declared.stream.Step.{Step}
 use Rattle.log.specs.declared.stream.Status.{Status}
 use Rattle.log.specs.Records.{itemOf, marked, markOf, sizeOf, misplaced, recordOf, settingsOf, defineOf, removeOf, frameOf, badFlags, definitionOf, le16, le32}
-use Rattle.log.specs.Lines.{Put, ascii}
+use Rattle.log.specs.declared.lines.LogLine.{LogLine}
+use Rattle.log.specs.declared.lines.Rendered.{Rendered}
+use Rattle.log.specs.Lines.{renderedOf, bufferOf, Put, ascii}
 use Rattle.log.specs.Output.{createdBy, definedBy, removedBy, processedBy, startOf, dataOf, frameAt, Move, itemStep, stepOf, settledStep, requestStep, frameStep, goStep, stopStep, waitStep, lastNumber, goesOn, waiting}
 use Rattle.log.specs.Pieces.{Does, after, soundOf}
 use Rattle.log.proofs.Texts.{line-length, answer-length, lines-length, length-take-min, nothing}
@@ -260,6 +262,10 @@ step-used ended log s = omega (arith, item-used ended log s (itemOf (log .count)
 
 pub one-start : (r q : Log) → r ≡ startOf → q ≡ startOf → r ≡ q
 one-start r q p w = p ∙ sym w
+
+pub one-line : (d : List ℕ) (l : LogLine) (r q : Rendered) (e f : List ℕ) → (r ≡ renderedOf (length d) l) × (e ≡ bufferOf d l)
+    → (q ≡ renderedOf (length d) l) × (f ≡ bufferOf d l) → (r ≡ q) × (e ≡ f)
+one-line d l r q e f p w = (p .0 ∙ sym (w .0), p .1 ∙ sym (w .1))
 
 pub one-item : (n : ℕ) (s : List ℕ) (r q : Item) → r ≡ itemOf n s → q ≡ itemOf n s → r ≡ q
 one-item n s r q p w = p ∙ sym w

@@ -12,6 +12,8 @@ use lib.Dec.{ltb}
 use lib.Ieee.{Float, toBits, binary32}
 use Rattle.table.specs.declared.Answer.{Answer}
 use Rattle.frames.specs.declared.SignalAnomaly.{SignalAnomaly}
+use Rattle.log.specs.declared.lines.LogLine.{LogLine}
+use Rattle.log.specs.declared.lines.Rendered.{Rendered}
 
 abbrev pub ascii : String → List ℕ
 ascii «empty» = []
@@ -65,6 +67,19 @@ anomalyLines n (x ∷ xs) = anomalyLine n x ++ anomalyLines n xs
 -- the number of sound records, and the stopping number
 abbrev pub endLine : ℕ → ℕ → List ℕ
 endLine n k = line (ascii "end ") n (ascii " ") k
+
+abbrev pub textOf : LogLine → List ℕ
+textOf (LogLine.Defined n a) = answerLine (ascii "D ") n a
+textOf (LogLine.Removed n a) = answerLine (ascii "R ") n a
+textOf (LogLine.Anomaly n x) = anomalyLine n x
+textOf (LogLine.End n k) = endLine n k
+
+-- ---- a line at the front of a buffer, where that has room for any line, and else nothing
+abbrev pub renderedOf : ℕ → LogLine → Rendered
+renderedOf room l = cond (ltb room 55) Rendered.NoRoom (Rendered.Length (length (textOf l)))
+
+abbrev pub bufferOf : List ℕ → LogLine → List ℕ
+bufferOf d l = cond (ltb (length d) 55) d (sets d 0 (textOf l))
 
 -- ---- a text in a lent buffer: t is written into d from place `at` on, r is the place behind it, and e is what d has become
 pub record Put (d : List ℕ) (at : ℕ) (t : List ℕ) (r : ℕ) (e : List ℕ) : Type 0 where

@@ -75,20 +75,14 @@ settledStep log e Answer.Done = goStep log 10 [] e
 settledStep log e (Answer.Slot k) = goStep log 10 [] e
 settledStep log e (Answer.Refused k) = stopStep log k
 
-abbrev pub settingsStep : Log → Float → Float → Move
-settingsStep log a t = let r = createdBy a t in settledStep log (r .engine) (r .answer)
-
--- a refused call is a sound record all the same
-abbrev pub defineStep : Log → SignalDefinition → Move
-defineStep log d = let r = definedBy (log .engine) d in goStep log 24 (answerLine (ascii "D ") (log .count + 1) (r .answer)) (r .engine)
-
-abbrev pub removeStep : Log → ℕ → Move
-removeStep log k = let r = removedBy (log .engine) k in goStep log 4 (answerLine (ascii "R ") (log .count + 1) (r .answer)) (r .engine)
+-- a table call, which is a sound record of n bytes also where it is refused
+abbrev pub calledStep : Log → List ℕ → ℕ → Defined → Move
+calledStep log letter n r = goStep log n (answerLine letter (log .count + 1) (r .answer)) (r .engine)
 
 abbrev pub requestStep : Log → Request → Move
-requestStep log (Request.Settings a t) = settingsStep log a t
-requestStep log (Request.Define d) = defineStep log d
-requestStep log (Request.Remove k) = removeStep log k
+requestStep log (Request.Settings a t) = settledStep log (createdBy a t .engine) (createdBy a t .answer)
+requestStep log (Request.Define d) = calledStep log (ascii "D ") 24 (definedBy (log .engine) d)
+requestStep log (Request.Remove k) = calledStep log (ascii "R ") 4 (removedBy (log .engine) k)
 
 -- a frame prints a line for each listed anomaly
 abbrev pub frameStep : Log → CanFrame → Move

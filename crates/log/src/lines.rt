@@ -2,10 +2,26 @@
 ghost use mathlib.Core.Path.{_≡_};
 ghost use Prim.Native.Nat.{_+_, _<_, _≤_, _*_};
 ghost use lib.ListN.{length, take};
-ghost use Rattle.log.specs.Lines.{Put, upper, hex8, decimal, numbers, line, field, answerLine, anomalyLine, anomalyLines, endLine};
+ghost use Rattle.log.specs.Lines.{Put, upper, hex8, decimal, numbers, line, field, answerLine, anomalyLine, anomalyLines, endLine, textOf};
+ghost use Rattle.log.specs.Lines.{renderedOf, bufferOf};
 use conversion::bits_of_f32;
 use frames::SignalAnomaly;
 use table::Answer;
+
+// A line of the output, each with its record's number but the end line, which has the number of sound records.
+pub enum LogLine {
+    Defined(u32, Answer),
+    Removed(u32, Answer),
+    Anomaly(u32, SignalAnomaly),
+    End(u32, u8),
+}
+
+pub enum Rendered {
+    // so many bytes were written
+    Length(usize),
+    // the buffer is shorter than a line may be, and is as it was
+    NoRoom,
+}
 
 fn put(out: &mut [u8], at: usize, text: &[u8]) -> usize
     requires { ⌜ at + length (now text) ≤ length (now out) ⌝ }
@@ -102,7 +118,7 @@ fn put_field(out: &mut [u8], at: usize, word: &[u8], x: f32) -> usize
 }
 
 // The line of a table call, whose letter is D or R.
-pub fn put_answer(out: &mut [u8], at: usize, letter: &[u8], n: u32, answer: Answer) -> usize
+pub(crate) fn put_answer(out: &mut [u8], at: usize, letter: &[u8], n: u32, answer: Answer) -> usize
     requires { ⌜ at + length (now letter) + 30 ≤ length (now out) ⌝ }
     ensures { λ r. ⌜ Put (now (out .entry)) at (answerLine (now (letter .entry)) n answer) r (now (out .exit)) ⌝ }
 {
@@ -118,7 +134,7 @@ pub fn put_answer(out: &mut [u8], at: usize, letter: &[u8], n: u32, answer: Answ
 }
 
 // The end line: the number of sound records, and the stopping number.
-pub fn put_end(out: &mut [u8], at: usize, n: u32, k: u8) -> usize
+pub(crate) fn put_end(out: &mut [u8], at: usize, n: u32, k: u8) -> usize
     requires { ⌜ at + 26 ≤ length (now out) ⌝ }
     ensures { λ r. ⌜ Put (now (out .entry)) at (endLine n k) r (now (out .exit)) ⌝ }
 {
@@ -136,7 +152,7 @@ fn put_anomaly(out: &mut [u8], at: usize, n: u32, x: SignalAnomaly) -> usize
 }
 
 // A line for each of the first `count` anomalies.
-pub fn put_anomalies(
+pub(crate) fn put_anomalies(
     out: &mut [u8],
     at: usize,
     n: u32,
@@ -154,4 +170,27 @@ pub fn put_anomalies(
         i += 1;
     }
     end
+}
+
+fn put_text(out: &mut [u8], at: usize, text: LogLine) -> usize
+    requires { ⌜ at + 55 ≤ length (now out) ⌝ }
+    ensures { λ r. ⌜ Put (now (out .entry)) at (textOf text) r (now (out .exit)) ⌝ }
+{
+    match text {
+        LogLine::Defined(n, answer) => put_answer(out, at, b"D ", n, answer),
+        LogLine::Removed(n, answer) => put_answer(out, at, b"R ", n, answer),
+        LogLine::Anomaly(n, x) => put_anomaly(out, at, n, x),
+        LogLine::End(n, k) => put_end(out, at, n, k),
+    }
+}
+
+// The line at the front of the buffer, which has to have 55 bytes: no line is longer.
+pub fn render(text: LogLine, out: &mut [u8]) -> Rendered
+    ensures { λ r. ⌜ r ≡ renderedOf (length (now (out .entry))) text ⌝ }
+    ensures { λ _. ⌜ now (out .exit) ≡ bufferOf (now (out .entry)) text ⌝ }
+{
+    if out.len() < 55 {
+        return Rendered::NoRoom;
+    }
+    Rendered::Length(put_text(out, 0, text))
 }

@@ -2,7 +2,7 @@
 ghost use mathlib.Core.Path.{_≡_};
 ghost use Prim.Native.Nat.{_+_, _<_, _≤_};
 ghost use lib.ListN.{length, take, drop};
-ghost use Rattle.log.specs.Output.{startOf, frameAt, goesOn, lastNumber, stopStep, waitStep, settledStep, settingsStep, defineStep, removeStep, requestStep};
+ghost use Rattle.log.specs.Output.{startOf, frameAt, goesOn, lastNumber, stopStep, waitStep, settledStep, calledStep, requestStep};
 ghost use Rattle.log.specs.Pieces.{Does, after, answerOf, soundOf, advanceOf};
 use crate::decode::Item;
 use crate::decode::Request;
@@ -10,10 +10,10 @@ use crate::decode::item_at_front;
 use crate::lines::put_anomalies;
 use crate::lines::put_answer;
 use crate::lines::put_end;
-use conversion::SignalDefinition;
 use frames::CanFrame;
 use frames::process_frame;
 use table::Answer;
+use table::Defined;
 use table::SignalIdsEngine;
 
 // No record is begun with less room: none prints more than eight lines of at most 55 bytes.
@@ -124,10 +124,12 @@ fn on_wait(log: Log, used: usize, left: usize, ended: bool, out: &mut [u8], at: 
 }
 
 // Settings that are refused stop the log.
-fn on_settled(log: Log, engine: SignalIdsEngine, answer: Answer, out: &mut [u8], at: usize) -> Step
+fn on_settled(log: Log, made: Defined, out: &mut [u8], at: usize) -> Step
     requires { ⌜ (log .count < 4294967295) × (at + 512 ≤ length (now out)) ⌝ }
-    ensures { λ r. ⌜ Does (now (out .entry)) at (settledStep log engine answer) r (now (out .exit)) ⌝ }
+    ensures { λ r. ⌜ Does (now (out .entry)) at (settledStep log (made .engine) (made .answer)) r (now (out .exit)) ⌝ }
 {
+    let engine = made.engine;
+    let answer = made.answer;
     match answer {
         Answer::Slot(_) => sound(log, engine, 10, at),
         Answer::Done => sound(log, engine, 10, at),
@@ -135,50 +137,36 @@ fn on_settled(log: Log, engine: SignalIdsEngine, answer: Answer, out: &mut [u8],
     }
 }
 
-fn on_settings(log: Log, alpha: f32, threshold: f32, out: &mut [u8], at: usize) -> Step
-    requires { ⌜ (log .count < 4294967295) × (at + 512 ≤ length (now out)) ⌝ }
-    ensures { λ r. ⌜ Does (now (out .entry)) at (settingsStep log alpha threshold) r (now (out .exit)) ⌝ }
+// A table call is answered in a line, refused or not.
+fn on_called(log: Log, done: Defined, letter: &[u8], used: usize, out: &mut [u8], at: usize) -> Step
+    requires { ⌜ (log .count < 4294967295) × (length (now letter) ≡ 2) × (at + 512 ≤ length (now out)) ⌝ }
+    ensures { λ r. ⌜ Does (now (out .entry)) at (calledStep log (now (letter .entry)) used done) r (now (out .exit)) ⌝ }
 {
-    let made = SignalIdsEngine::new(alpha, threshold);
-    let engine = made.engine;
-    let answer = made.answer;
-    on_settled(log, engine, answer, out, at)
-}
-
-fn on_define(log: Log, d: SignalDefinition, out: &mut [u8], at: usize) -> Step
-    requires { ⌜ (log .count < 4294967295) × (at + 512 ≤ length (now out)) ⌝ }
-    ensures { λ r. ⌜ Does (now (out .entry)) at (defineStep log d) r (now (out .exit)) ⌝ }
-{
-    let old = log.engine;
     let n = log.count;
-    let r = old.define_signal(d);
-    let engine = r.engine;
-    let answer = r.answer;
-    let end = put_answer(out, at, b"D ", n + 1, answer);
-    sound(log, engine, 24, end)
-}
-
-fn on_remove(log: Log, slot: u16, out: &mut [u8], at: usize) -> Step
-    requires { ⌜ (log .count < 4294967295) × (at + 512 ≤ length (now out)) ⌝ }
-    ensures { λ r. ⌜ Does (now (out .entry)) at (removeStep log slot) r (now (out .exit)) ⌝ }
-{
-    let old = log.engine;
-    let n = log.count;
-    let r = old.remove_signal(slot);
-    let engine = r.engine;
-    let answer = r.answer;
-    let end = put_answer(out, at, b"R ", n + 1, answer);
-    sound(log, engine, 4, end)
+    let engine = done.engine;
+    let answer = done.answer;
+    let end = put_answer(out, at, letter, n + 1, answer);
+    sound(log, engine, used, end)
 }
 
 fn on_request(log: Log, q: Request, out: &mut [u8], at: usize) -> Step
     requires { ⌜ (log .count < 4294967295) × (at + 512 ≤ length (now out)) ⌝ }
     ensures { λ r. ⌜ Does (now (out .entry)) at (requestStep log q) r (now (out .exit)) ⌝ }
 {
+    let engine = log.engine;
     match q {
-        Request::Settings(alpha, threshold) => on_settings(log, alpha, threshold, out, at),
-        Request::Define(d) => on_define(log, d, out, at),
-        Request::Remove(slot) => on_remove(log, slot, out, at),
+        Request::Settings(alpha, threshold) => {
+            let made = SignalIdsEngine::new(alpha, threshold);
+            on_settled(log, made, out, at)
+        }
+        Request::Define(d) => {
+            let done = engine.define_signal(d);
+            on_called(log, done, b"D ", 24, out, at)
+        }
+        Request::Remove(slot) => {
+            let done = engine.remove_signal(slot);
+            on_called(log, done, b"R ", 4, out, at)
+        }
     }
 }
 

@@ -1,6 +1,9 @@
 use Rattle.log.proofs.Steps.{does}
-use Rattle.log.specs.Output.{requestStep}
-use mathlib.Core.Path.{ap, sym}
+use Rattle.log.specs.Output.{requestStep, settledStep, calledStep}
+use Rattle.log.proofs.Below.{by-new, by-define, by-remove}
+use Rattle.log.specs.Lines.{ascii}
+use Rattle.table.specs.declared.Defined.{Defined}
+use mathlib.Core.Path.{_∙_, ap, sym}
 use borrow.Author.Needs.{needs}
 use Rattle.log.proofs.stream.on_request.Statement.{statement}
 use Rattle.log.proofs.stream.on_request.Tie as tie
@@ -8,49 +11,69 @@ use Rattle.log.proofs.stream.on_request.Tie as tie
 enum-known-q : tie.Need-enum-known-q
 enum-known-q c = search needs
 
-on-settings-requires : tie.Need-on-settings-requires
-on-settings-requires c κs = search needs
+new-requires : tie.Need-new-requires
+new-requires c κs = search needs
+
+on-settled-requires : tie.Need-on-settled-requires
+on-settled-requires c κs = search needs
 
 enum-known-q-2 : tie.Need-enum-known-q-2
 enum-known-q-2 c = search needs
 
-on-define-requires : tie.Need-on-define-requires
-on-define-requires c κs = search needs
+define-signal-requires : tie.Need-define-signal-requires
+define-signal-requires c κs = search needs
+
+slice-aggregate-on-called : tie.Need-slice-aggregate-on-called
+slice-aggregate-on-called c = search needs
+
+on-called-requires : tie.Need-on-called-requires
+on-called-requires c κs = search needs
 
 enum-known-q-3 : tie.Need-enum-known-q-3
 enum-known-q-3 c = search needs
 
-on-remove-requires : tie.Need-on-remove-requires
-on-remove-requires c κs = search needs
+remove-signal-requires : tie.Need-remove-signal-requires
+remove-signal-requires c κs = search needs
+
+slice-aggregate-on-called-2 : tie.Need-slice-aggregate-on-called-2
+slice-aggregate-on-called-2 c = search needs
+
+on-called-requires-2 : tie.Need-on-called-requires-2
+on-called-requires-2 c κs = search needs
 
 same-length : tie.Need-same-length
 same-length c = search needs
 
 returns : tie.Need-returns
-returns c = does (ap (requestStep (c .before .before .before .before .before .before .before .before .args .log)) (sym (c .before .before .before .before .before .q .given .1))) (c .before .before .on-settings .ensures)
+returns c = does (ap (λ (z : Defined). settledStep (c .before .before .before .before .before .before .before .before .before .before .args .log) (z .engine) (z .answer)) (by-new _ _ (c .before .before .before .before .new .ensures)) ∙ ap (requestStep (c .before .before .before .before .before .before .before .before .before .before .args .log)) (sym (c .before .before .before .before .before .before .q .given .1))) (c .before .before .on-settled .ensures)
 
 same-length-2 : tie.Need-same-length-2
 same-length-2 c = search needs
 
 returns-2 : tie.Need-returns-2
-returns-2 c = does (ap (requestStep (c .before .before .before .before .before .before .before .before .args .log)) (sym (c .before .before .before .before .before .q2 .given .1))) (c .before .before .on-define .ensures)
+returns-2 c = does (ap (calledStep (c .before .before .before .before .before .before .before .before .before .before .before .args .log) (ascii "D ") 24) (by-define _ _ (c .before .before .before .before .before .define-signal .ensures)) ∙ ap (requestStep (c .before .before .before .before .before .before .before .before .before .before .before .args .log)) (sym (c .before .before .before .before .before .before .before .q2 .given .1))) (c .before .before .on-called .ensures)
 
 same-length-3 : tie.Need-same-length-3
 same-length-3 c = search needs
 
 returns-3 : tie.Need-returns-3
-returns-3 c = does (ap (requestStep (c .before .before .before .before .before .before .before .before .args .log)) (sym (c .before .before .before .before .before .q3 .given .1))) (c .before .before .on-remove .ensures)
+returns-3 c = does (ap (calledStep (c .before .before .before .before .before .before .before .before .before .before .before .args .log) (ascii "R ") 4) (by-remove _ _ (c .before .before .before .before .before .remove-signal .ensures)) ∙ ap (requestStep (c .before .before .before .before .before .before .before .before .before .before .before .args .log)) (sym (c .before .before .before .before .before .before .before .q3 .given .1))) (c .before .before .on-called2 .ensures)
 
 pub on-request-spec : {M : Type 1} → statement M
 on-request-spec =
     tie.close
     (tie.spec
     enum-known-q
-    on-settings-requires
+    new-requires
+    on-settled-requires
     enum-known-q-2
-    on-define-requires
+    define-signal-requires
+    slice-aggregate-on-called
+    on-called-requires
     enum-known-q-3
-    on-remove-requires
+    remove-signal-requires
+    slice-aggregate-on-called-2
+    on-called-requires-2
     same-length
     returns
     same-length-2

@@ -25,16 +25,16 @@ on-stop-requires : tie.Need-on-stop-requires
 on-stop-requires c κs = search needs
 
 returns : tie.Need-returns
-returns c = does (ap (settledStep (c .before .before .before .before .args .log) (c .before .before .before .before .args .engine)) (sym (c .before .enum-told .given .1))) (sounds (c .before .before .before .before .args .log) (c .sound .ensures) (nothing _ _))
+returns c = does (ap (settledStep (c .before .before .before .before .before .args .log) (c .before .before .before .before .before .args .made .engine)) (sym (c .before .enum-told .given .1))) (sounds (c .before .before .before .before .before .args .log) (c .sound .ensures) (nothing _ _))
 
 returns-2 : tie.Need-returns-2
-returns-2 c = does (ap (settledStep (c .before .before .before .before .args .log) (c .before .before .before .before .args .engine)) (sym (c .before .enum-told2 .given .1))) (sounds (c .before .before .before .before .args .log) (c .sound2 .ensures) (nothing _ _))
+returns-2 c = does (ap (settledStep (c .before .before .before .before .before .args .log) (c .before .before .before .before .before .args .made .engine)) (sym (c .before .enum-told2 .given .1))) (sounds (c .before .before .before .before .before .args .log) (c .sound2 .ensures) (nothing _ _))
 
 same-length : tie.Need-same-length
 same-length c = search needs
 
 returns-3 : tie.Need-returns-3
-returns-3 c = does (ap (settledStep (c .before .before .before .before .before .before .before .before .args .log) (c .before .before .before .before .before .before .before .before .args .engine)) (sym (c .before .before .before .before .before .answer .given .1))) (c .before .before .on-stop .ensures)
+returns-3 c = does (ap (settledStep (c .before .before .before .before .before .before .before .before .before .args .log) (c .before .before .before .before .before .before .before .before .before .args .made .engine)) (sym (c .before .before .before .before .before .answer .given .1))) (c .before .before .on-stop .ensures)
 
 pub on-settled-spec : {M : Type 1} → statement M
 on-settled-spec =

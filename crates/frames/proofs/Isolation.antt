@@ -9,7 +9,6 @@ use lib.Ieee.{Float}
 use Rattle.table.specs.declared.Answer.{Answer}
 use Rattle.table.specs.declared.Answer.the-variants.{Done, Refused}
 use Rattle.table.specs.declared.Defined.{Defined}
-use Rattle.table.specs.declared.Entry.{Entry}
 use Rattle.table.specs.declared.SignalIdsEngine.{SignalIdsEngine}
 use Rattle.table.specs.Rows.{pick, keep}
 use Rattle.table.specs.Table.{Table, Told, accepted, refused, tableOf, live, withRows, defined, created}
@@ -69,6 +68,9 @@ module _ (id : ℕ) (x : Bool) where
   left-blur t (refused k) = refl
 
   -- ---- a frame of the key, and one of another
+  at-key : {A : Type 0} (F : ℕ → Bool → A) {i : ℕ} {f : Bool} → (i ≡ id) × (f ≡ x) → F i f ≡ F id x
+  at-key F {i} {f} k = ap (λ (a : ℕ). F a f) (k .0) ∙ ap (F id) (k .1)
+
   module _ (t : Table) (i : ℕ) (f : Bool) (s : List ℕ) (n : ℕ) where
     abbrev frameLeaves : Table → Table
     frameLeaves u = withRows u (advanced i f s n (u .rows))
@@ -76,20 +78,14 @@ module _ (id : ℕ) (x : Bool) where
     own-reports : sameKey i f id x ≡ true → reports i f s n (t .rows) ≡ reports i f s n (blurT t .rows)
     own-reports h =
         let k = key-is i f id x h in
-        named k (t .rows) ∙ reports-blur id x (t .fresh) s n (t .rows) ∙ sym (named k (blurT t .rows))
-      where
-        named : (i ≡ id) × (f ≡ x) → (l : List Entry) → reports i f s n l ≡ reports id x s n l
-        named k l = ap (λ (a : ℕ). reports a f s n l) (k .0) ∙ ap (λ (g : Bool). reports id g s n l) (k .1)
+        at-key (λ a g. reports a g s n (t .rows)) k ∙ reports-blur id x (t .fresh) s n (t .rows) ∙ sym (at-key (λ a g. reports a g s n (blurT t .rows)) k)
 
     own-leaves : sameKey i f id x ≡ true → blurT (frameLeaves t) ≡ blurT (frameLeaves (blurT t))
     own-leaves h =
         let k = key-is i f id x h in
-        ap (λ (l : List Entry). blurT (withRows t l)) (named k (t .rows))
+        at-key (λ a g. blurT (withRows t (advanced a g s n (t .rows)))) k
         ∙ ap (withRows t) (advanced-blur id x (t .fresh) s n (t .rows))
-        ∙ sym (ap (λ (l : List Entry). blurT (withRows t l)) (named k (blurT t .rows)))
-      where
-        named : (i ≡ id) × (f ≡ x) → (l : List Entry) → advanced i f s n l ≡ advanced id x s n l
-        named k l = ap (λ (a : ℕ). advanced a f s n l) (k .0) ∙ ap (λ (g : Bool). advanced id g s n l) (k .1)
+        ∙ sym (at-key (λ a g. blurT (withRows t (advanced a g s n (blurT t .rows)))) k)
 
     other-leaves : sameKey i f id x ≡ false → blurT (frameLeaves t) ≡ blurT t
     other-leaves h = ap (withRows t) (rows-other id x (t .fresh) i f h s n (multiplexorOf i f s n (t .rows)) (t .rows))
@@ -185,12 +181,12 @@ module _ (id : ℕ) (x : Bool) where
 
 -- ISOLATION. Two runs of compiled calls from one engine, the second without the frames of other keys: the answers to all that concerns the key are the
 -- same, and so are, at the end, its definitions with their slots and detectors
-pub isolation : (id : ℕ) (x : Bool) {e z z′ : SignalIdsEngine} {cs : List Call} {ws ws′ : List Said}
-    → Run e cs ws z
-    → Run e (keep (concerns id x) cs) ws′ z′
-    → (answersTo (concerns id x) cs ws ≡ ws′) × (ofKey id x z ≡ ofKey id x z′)
+pub isolation : (id : ℕ) (x : Bool) {e z z′ : SignalIdsEngine} {cs : List Call} {heard heard′ : List Said}
+    → Run e cs heard z
+    → Run e (keep (concerns id x) cs) heard′ z′
+    → (answersTo (concerns id x) cs heard ≡ heard′) × (ofKey id x z ≡ ofKey id x z′)
 unfolding Alike
-isolation id x {e} {z} {z′} {cs} {ws} {ws′} run run′ =
+isolation id x {e} {z} {z′} {cs} {heard} {heard′} run run′ =
     let a = runs-follow run in
     let b = runs-follow run′ in (
       ap (answersTo (concerns id x) cs) (a .0) ∙ answers-alike id x cs e e refl ∙ sym (b .0),
@@ -201,8 +197,8 @@ isolation id x {e} {z} {z′} {cs} {ws} {ws′} run run′ =
 pub isolation-from-new : (alpha threshold : Float) (made : Defined)
     → made ≡ created alpha threshold
     → made .answer ≡ Done
-    → (id : ℕ) (x : Bool) {z z′ : SignalIdsEngine} {cs : List Call} {ws ws′ : List Said}
-    → Run (made .engine) cs ws z
-    → Run (made .engine) (keep (concerns id x) cs) ws′ z′
-    → (answersTo (concerns id x) cs ws ≡ ws′) × (ofKey id x z ≡ ofKey id x z′)
+    → (id : ℕ) (x : Bool) {z z′ : SignalIdsEngine} {cs : List Call} {heard heard′ : List Said}
+    → Run (made .engine) cs heard z
+    → Run (made .engine) (keep (concerns id x) cs) heard′ z′
+    → (answersTo (concerns id x) cs heard ≡ heard′) × (ofKey id x z ≡ ofKey id x z′)
 isolation-from-new alpha threshold made h k id x run run′ = isolation id x run run′

@@ -20,31 +20,31 @@ use Rattle.frames.specs.Isolation.{Call, tabled, framed, rawFramed, Said
 use Rattle.frames.proofs.Theorems.{frame-table}
 
 -- ---- a run of compiled calls is the run of the functions that their promises cite
-table-step : (e : SignalIdsEngine) (c : TableCall) (r : Defined) (cs : List Call) (ws : List Said) (z : SignalIdsEngine)
+table-step : (e : SignalIdsEngine) (c : TableCall) (r : Defined) (cs : List Call) (heard : List Said) (z : SignalIdsEngine)
     → r ≡ defined e (told (tableOf e) c)
-    → (ws ≡ answers (r .engine) cs) × (z ≡ ran (r .engine) cs)
-    → (gave (r .answer) ∷ ws ≡ answers e (tabled c ∷ cs)) × (z ≡ ran e (tabled c ∷ cs))
-table-step e c r cs ws z h k = (
+    → (heard ≡ answers (r .engine) cs) × (z ≡ ran (r .engine) cs)
+    → (gave (r .answer) ∷ heard ≡ answers e (tabled c ∷ cs)) × (z ≡ ran e (tabled c ∷ cs))
+table-step e c r cs heard z h k = (
   ap (λ (l : List Said). gave (r .answer) ∷ l) (k .0) ∙ ap (λ (q : Defined). gave (q .answer) ∷ answers (q .engine) cs) h,
   k .1 ∙ ap (λ (q : Defined). ran (q .engine) cs) h,
 )
 
-frame-step : (p r : Processed) (cs : List Call) (ws : List Said) (z : SignalIdsEngine)
+frame-step : (p r : Processed) (cs : List Call) (heard : List Said) (z : SignalIdsEngine)
     → r ≡ p
-    → (ws ≡ answers (r .engine) cs) × (z ≡ ran (r .engine) cs)
-    → (saw (r .result) ∷ ws ≡ saw (p .result) ∷ answers (p .engine) cs) × (z ≡ ran (p .engine) cs)
-frame-step p r cs ws z h k = (
+    → (heard ≡ answers (r .engine) cs) × (z ≡ ran (r .engine) cs)
+    → (saw (r .result) ∷ heard ≡ saw (p .result) ∷ answers (p .engine) cs) × (z ≡ ran (p .engine) cs)
+frame-step p r cs heard z h k = (
   ap (λ (l : List Said). saw (r .result) ∷ l) (k .0) ∙ ap (λ (q : Processed). saw (q .result) ∷ answers (q .engine) cs) h,
   k .1 ∙ ap (λ (q : Processed). ran (q .engine) cs) h,
 )
 
-pub runs-follow : {e z : SignalIdsEngine} {cs : List Call} {ws : List Said} → Run e cs ws z → (ws ≡ answers e cs) × (z ≡ ran e cs)
+pub runs-follow : {e z : SignalIdsEngine} {cs : List Call} {heard : List Said} → Run e cs heard z → (heard ≡ answers e cs) × (z ≡ ran e cs)
 runs-follow (ended e) = (refl, refl)
-runs-follow (defineRuns e d r cs ws z h run) = table-step e (defines d) r cs ws z h (runs-follow run)
-runs-follow (batchRuns e ds n r cs ws z h run) = table-step e (batches ds n) r cs ws z h (runs-follow run)
-runs-follow (removeRuns e s r cs ws z h run) = table-step e (removes s) r cs ws z h (runs-follow run)
-runs-follow (frameRuns e f r cs ws z h run) = frame-step (processedFrame e f) r cs ws z h (runs-follow run)
-runs-follow (rawFrameRuns e i s n r cs ws z h run) = frame-step (processed e i false s n) r cs ws z h (runs-follow run)
+runs-follow (defineRuns e d r cs heard z h run) = table-step e (defines d) r cs heard z h (runs-follow run)
+runs-follow (batchRuns e ds n r cs heard z h run) = table-step e (batches ds n) r cs heard z h (runs-follow run)
+runs-follow (removeRuns e s r cs heard z h run) = table-step e (removes s) r cs heard z h (runs-follow run)
+runs-follow (frameRuns e f r cs heard z h run) = frame-step (processedFrame e f) r cs heard z h (runs-follow run)
+runs-follow (rawFrameRuns e i s n r cs heard z h run) = frame-step (processed e i false s n) r cs heard z h (runs-follow run)
 
 -- and there is one for any calls
 pub runs : (cs : List Call) (e : SignalIdsEngine) → Run e cs (answers e cs) (ran e cs)
@@ -76,7 +76,7 @@ new-regular alpha threshold = at (madeOf alpha threshold 10 5)
     at (configured f) = subst Regular (sym (table-engine (emptyTable f))) (empty-regular f)
     at (unconfigured k) = subst Regular (sym (table-engine (emptyTable idle))) (empty-regular idle)
 
-pub run-regular : (alpha threshold : Float) (r : Defined) → r ≡ created alpha threshold → {cs : List Call} {ws : List Said} {z : SignalIdsEngine} → Run (r .engine) cs ws z → Regular (tableOf z)
-run-regular alpha threshold r h {cs} {ws} {z} run =
+pub run-regular : (alpha threshold : Float) (r : Defined) → r ≡ created alpha threshold → {cs : List Call} {heard : List Said} {z : SignalIdsEngine} → Run (r .engine) cs heard z → Regular (tableOf z)
+run-regular alpha threshold r h {cs} {heard} {z} run =
     subst (λ (e : SignalIdsEngine). Regular (tableOf e)) (sym (runs-follow run .1))
     (ran-regular cs (r .engine) (subst (λ (d : Defined). Regular (tableOf (d .engine))) (sym h) (new-regular alpha threshold)))

@@ -32,26 +32,26 @@ pub data Said : Type 0 where
 -- ---- a run of compiled calls: each takes the engine that the one before it returned, and all that is known of what it returns is its promise
 pub data Run : SignalIdsEngine → List Call → List Said → SignalIdsEngine → Type 0 where
   ended : (e : SignalIdsEngine) → Run e [] [] e
-  defineRuns : (e : SignalIdsEngine) (d : SignalDefinition) (r : Defined) (cs : List Call) (ws : List Said) (z : SignalIdsEngine)
+  defineRuns : (e : SignalIdsEngine) (d : SignalDefinition) (r : Defined) (cs : List Call) (heard : List Said) (z : SignalIdsEngine)
       → r ≡ defined e (define′ (tableOf e) d)
-      → Run (r .engine) cs ws z
-      → Run e (tabled (defines d) ∷ cs) (gave (r .answer) ∷ ws) z
-  batchRuns : (e : SignalIdsEngine) (ds : List SignalDefinition) (n : ℕ) (r : Defined) (cs : List Call) (ws : List Said) (z : SignalIdsEngine)
+      → Run (r .engine) cs heard z
+      → Run e (tabled (defines d) ∷ cs) (gave (r .answer) ∷ heard) z
+  batchRuns : (e : SignalIdsEngine) (ds : List SignalDefinition) (n : ℕ) (r : Defined) (cs : List Call) (heard : List Said) (z : SignalIdsEngine)
       → r ≡ defined e (batch′ (tableOf e) ds n)
-      → Run (r .engine) cs ws z
-      → Run e (tabled (batches ds n) ∷ cs) (gave (r .answer) ∷ ws) z
-  removeRuns : (e : SignalIdsEngine) (s : ℕ) (r : Defined) (cs : List Call) (ws : List Said) (z : SignalIdsEngine)
+      → Run (r .engine) cs heard z
+      → Run e (tabled (batches ds n) ∷ cs) (gave (r .answer) ∷ heard) z
+  removeRuns : (e : SignalIdsEngine) (s : ℕ) (r : Defined) (cs : List Call) (heard : List Said) (z : SignalIdsEngine)
       → r ≡ defined e (remove′ (tableOf e) s)
-      → Run (r .engine) cs ws z
-      → Run e (tabled (removes s) ∷ cs) (gave (r .answer) ∷ ws) z
-  frameRuns : (e : SignalIdsEngine) (f : CanFrame) (r : Processed) (cs : List Call) (ws : List Said) (z : SignalIdsEngine)
+      → Run (r .engine) cs heard z
+      → Run e (tabled (removes s) ∷ cs) (gave (r .answer) ∷ heard) z
+  frameRuns : (e : SignalIdsEngine) (f : CanFrame) (r : Processed) (cs : List Call) (heard : List Said) (z : SignalIdsEngine)
       → r ≡ processedFrame e f
-      → Run (r .engine) cs ws z
-      → Run e (framed f ∷ cs) (saw (r .result) ∷ ws) z
-  rawFrameRuns : (e : SignalIdsEngine) (id : ℕ) (s : List ℕ) (n : ℕ) (r : Processed) (cs : List Call) (ws : List Said) (z : SignalIdsEngine)
+      → Run (r .engine) cs heard z
+      → Run e (framed f ∷ cs) (saw (r .result) ∷ heard) z
+  rawFrameRuns : (e : SignalIdsEngine) (id : ℕ) (s : List ℕ) (n : ℕ) (r : Processed) (cs : List Call) (heard : List Said) (z : SignalIdsEngine)
       → r ≡ processed e id false s n
-      → Run (r .engine) cs ws z
-      → Run e (rawFramed id s n ∷ cs) (saw (r .result) ∷ ws) z
+      → Run (r .engine) cs heard z
+      → Run e (rawFramed id s n ∷ cs) (saw (r .result) ∷ heard) z
 
 -- ---- the same by the functions that the promises cite
 abbrev pub said : SignalIdsEngine → Call → Said
@@ -82,9 +82,9 @@ concerns id extended (rawFramed i s n) = sameKey i false id extended
 
 -- the answers to those calls that pass the test
 abbrev pub answersTo : (Call → Bool) → List Call → List Said → List Said
-answersTo p [] ws = []
+answersTo p [] heard = []
 answersTo p (c ∷ cs) [] = []
-answersTo p (c ∷ cs) (a ∷ ws) = pick (p c) (a ∷ answersTo p cs ws) (answersTo p cs ws)
+answersTo p (c ∷ cs) (a ∷ heard) = pick (p c) (a ∷ answersTo p cs heard) (answersTo p cs heard)
 
 -- the key's definitions with their slots and detectors, in table order
 abbrev pub ofKey : ℕ → Bool → SignalIdsEngine → List Entry

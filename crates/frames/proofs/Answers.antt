@@ -1,14 +1,14 @@
 -- The answer as a loop fills it: one report more, and its anomaly where there is one and room for it.
 -- Assumes nothing.
 use mathlib.Core.Path.{_≡_, refl, sym, ap, _∙_}
-use mathlib.Core.Bool.{Bool, true, false}
+use mathlib.Core.Bool.{Bool, true, false, cond}
 use mathlib.Core.List.{List, [], _∷_, _++_, flatMap, append-nil}
 use Prim.Native.Nat.{ℕ, _+_, _<_}
 use native.Mathlib.Omega.{arith}
 use lib.Dec.{ltb}
 use borrow.Author.Tests.{lt-ltb, ltb-true, ltb-false}
 use lib.ListN.{length, take, set, replicate}
-use Rattle.table.specs.Rows.{pick, pad}
+use Rattle.table.specs.Rows.{pad}
 use Rattle.table.proofs.Laws.{chosen, pad-nil, pushed, take-room, take-full, flat-append, flat-one}
 use Rattle.frames.specs.declared.Outcome.{Outcome}
 use Rattle.frames.specs.declared.Report.{Report}
@@ -27,7 +27,7 @@ unfolding flatMap
 blank-is a r p q = four (ap (replicate 8) p ∙ pad-nil 8 blankAnomaly) refl (ap (replicate 64) q ∙ pad-nil 64 blankReport) refl
 
 -- where there is room, a report's anomaly is its outcome's
-pub raises : (r : Report) (k : ℕ) {o : Outcome} → k < 8 → r .outcome ≡ o → pick (ltb k 8) (flagged r) [] ≡ anomaly (r .slot) (outcomeMeans o)
+pub raises : (r : Report) (k : ℕ) {o : Outcome} → k < 8 → r .outcome ≡ o → cond (ltb k 8) (flagged r) [] ≡ anomaly (r .slot) (outcomeMeans o)
 raises r k h e = chosen _ _ refl (lt-ltb k 8 h) ∙ ap (λ (q : Outcome). anomaly (r .slot) (outcomeMeans q)) e
 
 -- ---- a report has at most one anomaly
@@ -35,29 +35,29 @@ flagged-more : (l : List Report) (r : Report) → flatMap flagged (l ++ (r ∷ [
 flagged-more l r = flat-append flagged l (r ∷ []) ∙ ap (λ (z : List SignalAnomaly). flatMap flagged l ++ z) (flat-one flagged r)
 
 -- the room that is left is what `raised` asks for
-pub room : {k : ℕ} {a : SignalAnomaly} (l : List SignalAnomaly) → (a ∷ []) ≡ pick (ltb k 8) l [] → k < 8
+pub room : {k : ℕ} {a : SignalAnomaly} (l : List SignalAnomaly) → (a ∷ []) ≡ cond (ltb k 8) l [] → k < 8
 room {k} {a} l h = go (ltb k 8) refl
   where
     go : (b : Bool) → ltb k 8 ≡ b → k < 8
     go true e = ltb-true k 8 e
     go false e =
-        let none : (a ∷ []) ≡ [] = h ∙ ap (λ (b : Bool). pick b l []) e in
+        let none : (a ∷ []) ≡ [] = h ∙ ap (λ (b : Bool). cond b l []) e in
         absurd (omega (arith, ap length none))
 
 -- an anomaly is listed: it is the report's, and there was room
-listed-one : (l : List Report) (r : Report) (a : SignalAnomaly) → (a ∷ []) ≡ pick (ltb (length (listed l)) 8) (flagged r) [] → listed (l ++ (r ∷ [])) ≡ listed l ++ (a ∷ [])
+listed-one : (l : List Report) (r : Report) (a : SignalAnomaly) → (a ∷ []) ≡ cond (ltb (length (listed l)) 8) (flagged r) [] → listed (l ++ (r ∷ [])) ≡ listed l ++ (a ∷ [])
 listed-one l r a h =
     let some : length (listed l) < 8 = room (flagged r) h in
-    let is : flagged r ≡ (a ∷ []) = sym (h ∙ ap (λ (b : Bool). pick b (flagged r) []) (lt-ltb (length (listed l)) 8 some)) in
+    let is : flagged r ≡ (a ∷ []) = sym (h ∙ ap (λ (b : Bool). cond b (flagged r) []) (lt-ltb (length (listed l)) 8 some)) in
     ap (take 8) (flagged-more l r ∙ ap (λ (z : List SignalAnomaly). flatMap flagged l ++ z) is) ∙ take-room 8 (flatMap flagged l) a some
 
 -- none is listed: the report has none, or there was no room
-listed-none : (l : List Report) (r : Report) → [] ≡ pick (ltb (length (listed l)) 8) (flagged r) [] → listed (l ++ (r ∷ [])) ≡ listed l
+listed-none : (l : List Report) (r : Report) → [] ≡ cond (ltb (length (listed l)) 8) (flagged r) [] → listed (l ++ (r ∷ [])) ≡ listed l
 listed-none l r h = go (ltb (length (listed l)) 8) refl
   where
     go : (b : Bool) → ltb (length (listed l)) 8 ≡ b → listed (l ++ (r ∷ [])) ≡ listed l
     go true e =
-        let none : flagged r ≡ [] = sym (h ∙ ap (λ (b : Bool). pick b (flagged r) []) e) in
+        let none : flagged r ≡ [] = sym (h ∙ ap (λ (b : Bool). cond b (flagged r) []) e) in
         ap (take 8) (flagged-more l r ∙ ap (λ (z : List SignalAnomaly). flatMap flagged l ++ z) none ∙ append-nil (flatMap flagged l))
     go false e = ap (take 8) (flagged-more l r) ∙ take-full 8 (flatMap flagged l) (flagged r) (ltb-false (length (listed l)) 8 e)
 
@@ -76,10 +76,10 @@ module _ (o : SignalIdsResult) (l : List Report) (r : Report) (is : o ≡ answer
 
   pub one-quiet : {m : List Report}
       → m ≡ l ++ (r ∷ [])
-      → [] ≡ pick (ltb (o .«anomaly_count») 8) (flagged r) []
+      → [] ≡ cond (ltb (o .«anomaly_count») 8) (flagged r) []
       → resultOf (o .anomalies) (o .«anomaly_count») (set (o .reports) (o .«report_count») r) (o .«report_count» + 1) ≡ answered m
   one-quiet e h =
-      let same : listed (l ++ (r ∷ [])) ≡ listed l = listed-none l r (h ∙ ap (λ (k : ℕ). pick (ltb k 8) (flagged r) []) count-is) in
+      let same : listed (l ++ (r ∷ [])) ≡ listed l = listed-none l r (h ∙ ap (λ (k : ℕ). cond (ltb k 8) (flagged r) []) count-is) in
       four
       (ap (λ (q : SignalIdsResult). q .anomalies) is ∙ ap (pad 8 blankAnomaly) (sym same))
       (count-is ∙ ap length (sym same))
@@ -89,9 +89,9 @@ module _ (o : SignalIdsResult) (l : List Report) (r : Report) (is : o ≡ answer
 
   pub one-listed : {m : List Report} (a : SignalAnomaly)
       → m ≡ l ++ (r ∷ [])
-      → (a ∷ []) ≡ pick (ltb (o .«anomaly_count») 8) (flagged r) []
+      → (a ∷ []) ≡ cond (ltb (o .«anomaly_count») 8) (flagged r) []
       → resultOf (set (o .anomalies) (o .«anomaly_count») a) (o .«anomaly_count» + 1) (set (o .reports) (o .«report_count») r) (o .«report_count» + 1) ≡ answered m
   one-listed a e h =
-      let more : listed (l ++ (r ∷ [])) ≡ listed l ++ (a ∷ []) = listed-one l r a (h ∙ ap (λ (k : ℕ). pick (ltb k 8) (flagged r) []) count-is) in
+      let more : listed (l ++ (r ∷ [])) ≡ listed l ++ (a ∷ []) = listed-one l r a (h ∙ ap (λ (k : ℕ). cond (ltb k 8) (flagged r) []) count-is) in
       let put = pushed 8 blankAnomaly (listed l) a (ap (λ (q : SignalIdsResult). q .anomalies) is) count-is (room (flagged r) h) more in
       four (put .1) (put .0) (stored .1) (stored .0) ∙ ap answered (sym e)

@@ -2,7 +2,7 @@
 -- key's frame leaves it as it was.
 -- Assumes nothing.
 use mathlib.Core.Path.{_≡_, refl, sym, ap, _∙_}
-use mathlib.Core.Bool.{Bool, true, false}
+use mathlib.Core.Bool.{Bool, true, false, cond}
 use mathlib.Core.List.{List, [], _∷_, map}
 use Prim.Native.Nat.{ℕ, _+_}
 use lib.Dec.{eqb, ltb, leb}
@@ -11,7 +11,7 @@ use Rattle.conversion.specs.declared.SignalDefinition.{SignalDefinition}
 use Rattle.detector.specs.declared.EwmaDetector.{EwmaDetector}
 use Rattle.table.specs.declared.Answer.the-variants.{Slot, Done}
 use Rattle.table.specs.declared.Entry.{Entry}
-use Rattle.table.specs.Rows.{pick, keep, some, dropFirst, insertBehind}
+use Rattle.table.specs.Rows.{keep, some, dropFirst, insertBehind}
 use Rattle.table.specs.Table.{Table, Told, accepted, refused, withRows, fault, faults, slotsOk, entryOf, below, has, without, added, appended, appendedAll, define′, remove′, batch′}
 use Rattle.table.specs.Calls.{TableCall, defines, batches, removes, told}
 use Rattle.frames.specs.declared.Multiplexor.{Multiplexor}
@@ -29,31 +29,31 @@ apart id x i f row n h =
 module _ {ℓ} {A : Type ℓ} (g : A → A) (p : A → Bool) (same : (a : A) → p (g a) ≡ p a) where
   map-insert : (x : A) (l : List A) → map g (insertBehind p x l) ≡ insertBehind p (g x) (map g l)
   map-insert x [] = refl
-  map-insert x (a ∷ l) = at (map-insert x l) (p a) ∙ ap (λ (b : Bool). pick b (g a ∷ insertBehind p (g x) (map g l)) (g x ∷ g a ∷ map g l)) (sym (same a))
+  map-insert x (a ∷ l) = at (map-insert x l) (p a) ∙ ap (λ (b : Bool). cond b (g a ∷ insertBehind p (g x) (map g l)) (g x ∷ g a ∷ map g l)) (sym (same a))
     where
       at : map g (insertBehind p x l) ≡ insertBehind p (g x) (map g l)
           → (b : Bool)
-          → map g (pick b (a ∷ insertBehind p x l) (x ∷ a ∷ l)) ≡ pick b (g a ∷ insertBehind p (g x) (map g l)) (g x ∷ g a ∷ map g l)
+          → map g (cond b (a ∷ insertBehind p x l) (x ∷ a ∷ l)) ≡ cond b (g a ∷ insertBehind p (g x) (map g l)) (g x ∷ g a ∷ map g l)
       at e true = ap (λ (r : List A). g a ∷ r) e
       at e false = refl
 
   map-drop-first : (l : List A) → map g (dropFirst p l) ≡ dropFirst p (map g l)
   map-drop-first [] = refl
-  map-drop-first (a ∷ l) = at (map-drop-first l) (p a) ∙ ap (λ (b : Bool). pick b (map g l) (g a ∷ dropFirst p (map g l))) (sym (same a))
+  map-drop-first (a ∷ l) = at (map-drop-first l) (p a) ∙ ap (λ (b : Bool). cond b (map g l) (g a ∷ dropFirst p (map g l))) (sym (same a))
     where
-      at : map g (dropFirst p l) ≡ dropFirst p (map g l) → (b : Bool) → map g (pick b l (a ∷ dropFirst p l)) ≡ pick b (map g l) (g a ∷ dropFirst p (map g l))
+      at : map g (dropFirst p l) ≡ dropFirst p (map g l) → (b : Bool) → map g (cond b l (a ∷ dropFirst p l)) ≡ cond b (map g l) (g a ∷ dropFirst p (map g l))
       at e true = refl
       at e false = ap (λ (r : List A). g a ∷ r) e
 
   map-some : (l : List A) → some p (map g l) ≡ some p l
   map-some [] = refl
-  map-some (a ∷ l) = ap (λ (b : Bool). pick b true (some p (map g l))) (same a) ∙ ap (pick (p a) true) (map-some l)
+  map-some (a ∷ l) = ap (λ (b : Bool). cond b true (some p (map g l))) (same a) ∙ ap (cond (p a) true) (map-some l)
 
 module _ (id : ℕ) (x : Bool) where
   -- ---- the blur of a row, by a fresh detector
   module _ (fresh : EwmaDetector) where
     abbrev withDetector : Entry → EwmaDetector → Bool → Entry
-    withDetector row t b = record { id = row .id; signal = row .signal; detector = pick b t fresh }
+    withDetector row t b = record { id = row .id; signal = row .signal; detector = cond b t fresh }
 
     abbrev pub blur : Entry → Entry
     blur row = withDetector row (row .detector) (applies id x row)
@@ -75,7 +75,7 @@ module _ (id : ℕ) (x : Bool) where
     blur-twice : (row : Entry) → blur (blur row) ≡ blur row
     blur-twice row = at (applies id x row)
       where
-        at : (b : Bool) → withDetector row (pick b (row .detector) fresh) b ≡ withDetector row (row .detector) b
+        at : (b : Bool) → withDetector row (cond b (row .detector) fresh) b ≡ withDetector row (row .detector) b
         at true = refl
         at false = refl
 
@@ -117,21 +117,21 @@ module _ (id : ℕ) (x : Bool) where
         go : keep (applies id x) l ≡ keep (applies id x) (map blur l)
             → (b : Bool)
             → applies id x row ≡ b
-            → pick (applies id x row) (row ∷ keep (applies id x) l) (keep (applies id x) l)
-            ≡ pick (applies id x row) (blur row ∷ keep (applies id x) (map blur l)) (keep (applies id x) (map blur l))
+            → cond (applies id x row) (row ∷ keep (applies id x) l) (keep (applies id x) l)
+            ≡ cond (applies id x row) (blur row ∷ keep (applies id x) (map blur l)) (keep (applies id x) (map blur l))
         go i true h =
-            ap (λ (b : Bool). pick b (row ∷ keep (applies id x) l) (keep (applies id x) l)) h
+            ap (λ (b : Bool). cond b (row ∷ keep (applies id x) l) (keep (applies id x) l)) h
             ∙ ap (λ (r : List Entry). row ∷ r) i
             ∙ ap (λ (r : Entry). r ∷ keep (applies id x) (map blur l)) (sym (blur-own row h))
-            ∙ sym (ap (λ (b : Bool). pick b (blur row ∷ keep (applies id x) (map blur l)) (keep (applies id x) (map blur l))) h)
+            ∙ sym (ap (λ (b : Bool). cond b (blur row ∷ keep (applies id x) (map blur l)) (keep (applies id x) (map blur l))) h)
         go i false h =
-            ap (λ (b : Bool). pick b (row ∷ keep (applies id x) l) (keep (applies id x) l)) h
+            ap (λ (b : Bool). cond b (row ∷ keep (applies id x) l) (keep (applies id x) l)) h
             ∙ i
-            ∙ sym (ap (λ (b : Bool). pick b (blur row ∷ keep (applies id x) (map blur l)) (keep (applies id x) (map blur l))) h)
+            ∙ sym (ap (λ (b : Bool). cond b (blur row ∷ keep (applies id x) (map blur l)) (keep (applies id x) (map blur l))) h)
 
     multiplexor-blur : (s : List ℕ) (n : ℕ) (l : List Entry) → multiplexorOf id x s n (map blur l) ≡ multiplexorOf id x s n l
     multiplexor-blur s n [] = refl
-    multiplexor-blur s n (row ∷ l) = ap (pick (selects id x row) (numberOf s n (row .signal .definition))) (multiplexor-blur s n l)
+    multiplexor-blur s n (row ∷ l) = ap (cond (selects id x row) (numberOf s n (row .signal .definition))) (multiplexor-blur s n l)
 
     pub reports-blur : (s : List ℕ) (n : ℕ) (l : List Entry) → reports id x s n l ≡ reports id x s n (map blur l)
     reports-blur s n l =
@@ -169,7 +169,7 @@ module _ (id : ℕ) (x : Bool) where
       ∙ at (eqb (fault d) 0) (ltb (length (t .rows)) 64) (eqb (t .next) 65535)
     where
       tests : Bool → Bool → Bool → Table → Told
-      tests a b c u = pick a (pick b (pick c (refused 4) (accepted (Slot (t .next)) u)) (refused 4)) (refused (fault d))
+      tests a b c u = cond a (cond b (cond c (refused 4) (accepted (Slot (t .next)) u)) (refused 4)) (refused (fault d))
 
       told-by : Bool → Table → Told
       told-by b u = tests (eqb (fault d) 0) b (eqb (t .next) 65535) u
@@ -182,11 +182,11 @@ module _ (id : ℕ) (x : Bool) where
 
   remove-blur : (t : Table) (s : ℕ) → remove′ (blurred t) s ≡ blurTold (remove′ t s)
   remove-blur t s =
-      ap (λ (b : Bool). pick b (accepted Done (without (blurred t) s)) (refused 3)) (map-some (blur (t .fresh)) (has s) (λ a. refl) (t .rows))
-      ∙ ap (λ (l : List Entry). pick (some (has s) (t .rows)) (accepted Done (withRows t l)) (refused 3)) (sym (map-drop-first (blur (t .fresh)) (has s) (λ a. refl) (t .rows)))
+      ap (λ (b : Bool). cond b (accepted Done (without (blurred t) s)) (refused 3)) (map-some (blur (t .fresh)) (has s) (λ a. refl) (t .rows))
+      ∙ ap (λ (l : List Entry). cond (some (has s) (t .rows)) (accepted Done (withRows t l)) (refused 3)) (sym (map-drop-first (blur (t .fresh)) (has s) (λ a. refl) (t .rows)))
       ∙ at (some (has s) (t .rows))
     where
-      at : (b : Bool) → pick b (accepted Done (blurred (without t s))) (refused 3) ≡ blurTold (pick b (accepted Done (without t s)) (refused 3))
+      at : (b : Bool) → cond b (accepted Done (blurred (without t s))) (refused 3) ≡ blurTold (cond b (accepted Done (without t s)) (refused 3))
       at true = refl
       at false = refl
 
@@ -201,7 +201,7 @@ module _ (id : ℕ) (x : Bool) where
       ∙ at (leb (length (t .rows) + n) 64) (eqb (faults (take n ds)) 0) (slotsOk n (t .next))
     where
       tests : Bool → Bool → Bool → Table → Told
-      tests a b c u = pick a (pick b (pick c (accepted Done u) (refused 4)) (refused (faults (take n ds)))) (refused 4)
+      tests a b c u = cond a (cond b (cond c (accepted Done u) (refused 4)) (refused (faults (take n ds)))) (refused 4)
 
       told-by : Bool → Table → Told
       told-by a u = tests a (eqb (faults (take n ds)) 0) (slotsOk n (t .next)) u

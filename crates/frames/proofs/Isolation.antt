@@ -1,7 +1,7 @@
 -- The customer's third demand, proved: over a run of compiled calls, frames of other keys change neither what the key's calls answer nor its detectors.
 -- Assumes nothing.
 use mathlib.Core.Path.{_≡_, refl, sym, ap, _∙_, subst}
-use mathlib.Core.Bool.{Bool, true, false}
+use mathlib.Core.Bool.{Bool, true, false, cond}
 use mathlib.Core.List.{List, [], _∷_}
 use Prim.Native.Nat.{ℕ}
 use native.Mathlib.Omega.{arith}
@@ -10,7 +10,7 @@ use Rattle.table.specs.declared.Answer.{Answer}
 use Rattle.table.specs.declared.Answer.the-variants.{Done, Refused}
 use Rattle.table.specs.declared.Defined.{Defined}
 use Rattle.table.specs.declared.SignalIdsEngine.{SignalIdsEngine}
-use Rattle.table.specs.Rows.{pick, keep}
+use Rattle.table.specs.Rows.{keep}
 use Rattle.table.specs.Table.{Table, Told, accepted, refused, tableOf, live, withRows, defined, created}
 use Rattle.table.specs.Calls.{told, left}
 use Rattle.table.proofs.Regular.{follows}
@@ -150,16 +150,16 @@ module _ (id : ℕ) (x : Bool) where
       go : ((v w : SignalIdsEngine) → Alike v w → answersTo (concerns id x) cs (answers v cs) ≡ answers w (kept cs))
           → (b : Bool)
           → concerns id x c ≡ b
-          → pick (concerns id x c) (said e c ∷ rest) rest ≡ answers u (pick (concerns id x c) (c ∷ kept cs) (kept cs))
+          → cond (concerns id x c) (said e c ∷ rest) rest ≡ answers u (cond (concerns id x c) (c ∷ kept cs) (kept cs))
       go r true h =
-          ap (λ (b : Bool). pick b (said e c ∷ rest) rest) h
+          ap (λ (b : Bool). cond b (said e c ∷ rest) rest) h
           ∙ ap (λ (a : Said). a ∷ rest) (said-alike e u c h k)
           ∙ ap (λ (l : List Said). said u c ∷ l) (r (after e c) (after u c) (after-alike e u c h k))
-          ∙ sym (ap (λ (b : Bool). answers u (pick b (c ∷ kept cs) (kept cs))) h)
+          ∙ sym (ap (λ (b : Bool). answers u (cond b (c ∷ kept cs) (kept cs))) h)
       go r false h =
-          ap (λ (b : Bool). pick b (said e c ∷ rest) rest) h
+          ap (λ (b : Bool). cond b (said e c ∷ rest) rest) h
           ∙ r (after e c) u (gone-alike e u c h k)
-          ∙ sym (ap (λ (b : Bool). answers u (pick b (c ∷ kept cs) (kept cs))) h)
+          ∙ sym (ap (λ (b : Bool). answers u (cond b (c ∷ kept cs) (kept cs))) h)
 
   ran-alike : (cs : List Call) (e u : SignalIdsEngine) → Alike e u → Alike (ran e cs) (ran u (kept cs))
   ran-alike [] e u k = k
@@ -168,11 +168,11 @@ module _ (id : ℕ) (x : Bool) where
       go : ((v w : SignalIdsEngine) → Alike v w → Alike (ran v cs) (ran w (kept cs)))
           → (b : Bool)
           → concerns id x c ≡ b
-          → Alike (ran (after e c) cs) (ran u (pick (concerns id x c) (c ∷ kept cs) (kept cs)))
+          → Alike (ran (after e c) cs) (ran u (cond (concerns id x c) (c ∷ kept cs) (kept cs)))
       go r true h =
-          subst (λ (b : Bool). Alike (ran (after e c) cs) (ran u (pick b (c ∷ kept cs) (kept cs)))) (sym h) (r (after e c) (after u c) (after-alike e u c h k))
+          subst (λ (b : Bool). Alike (ran (after e c) cs) (ran u (cond b (c ∷ kept cs) (kept cs)))) (sym h) (r (after e c) (after u c) (after-alike e u c h k))
       go r false h =
-          subst (λ (b : Bool). Alike (ran (after e c) cs) (ran u (pick b (c ∷ kept cs) (kept cs)))) (sym h) (r (after e c) u (gone-alike e u c h k))
+          subst (λ (b : Bool). Alike (ran (after e c) cs) (ran u (cond b (c ∷ kept cs) (kept cs)))) (sym h) (r (after e c) u (gone-alike e u c h k))
 
   of-key-alike : (e u : SignalIdsEngine) → Alike e u → ofKey id x e ≡ ofKey id x u
   unfolding Alike

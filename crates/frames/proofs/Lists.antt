@@ -1,14 +1,14 @@
 -- Laws over any element type: how many pass a test from a place on; a list that is moved from the front.
 -- Assumes nothing.
 use mathlib.Core.Path.{_≡_, refl, sym, ap, _∙_}
-use mathlib.Core.Bool.{Bool, true, false}
+use mathlib.Core.Bool.{Bool, true, false, cond}
 use mathlib.Core.List.{List, [], _∷_, _++_, map, append-nil}
 use Prim.Native.Nat.{ℕ, suc, _+_, _-_, _≤_, _<_}
 use native.Mathlib.Numerals.{add-one}
 use native.Mathlib.Omega.{arith}
 use lib.ListN.{length, getD, take, drop, set, length-append, length-map, take-append-drop}
 use lib.Seq.{length-take-le, drop-cons, set-at, getD-append-seam, append-snoc}
-use Rattle.table.specs.Rows.{pick, keep}
+use Rattle.table.specs.Rows.{keep}
 use Rattle.table.proofs.Laws.{map-append, take-more, keep-append}
 
 -- ---- how many pass a test
@@ -16,10 +16,10 @@ module _ {ℓ} {A : Type ℓ} (p : A → Bool) where
   abbrev pub tally : List A → ℕ
   tally l = length (keep p l)
 
-  pub tally-cons : (a : A) (l : List A) → tally (a ∷ l) ≡ pick (p a) (suc (tally l)) (tally l)
+  pub tally-cons : (a : A) (l : List A) → tally (a ∷ l) ≡ cond (p a) (suc (tally l)) (tally l)
   tally-cons a l = at (p a)
     where
-      at : (b : Bool) → length (pick b (a ∷ keep p l) (keep p l)) ≡ pick b (suc (tally l)) (tally l)
+      at : (b : Bool) → length (cond b (a ∷ keep p l) (keep p l)) ≡ cond b (suc (tally l)) (tally l)
       at true = refl
       at false = refl
 
@@ -47,7 +47,7 @@ module _ {ℓ} {A : Type ℓ} (p : A → Bool) where
     pub front-miss : p (getD l (j - 1) d) ≡ false → tally (take j l) ≡ tally (take (j - 1) l)
     front-miss t =
         ap tally last
-        ∙ ap length (keep-append p (take (j - 1) l) (getD l (j - 1) d ∷ []) ∙ ap (λ (b : Bool). keep p (take (j - 1) l) ++ pick b (getD l (j - 1) d ∷ []) []) t ∙ append-nil (keep p (take (j - 1) l)))
+        ∙ ap length (keep-append p (take (j - 1) l) (getD l (j - 1) d ∷ []) ∙ ap (λ (b : Bool). keep p (take (j - 1) l) ++ cond b (getD l (j - 1) d ∷ []) []) t ∙ append-nil (keep p (take (j - 1) l)))
 
 -- ---- a list whose first i elements are moved
 module _ {ℓ} {A : Type ℓ} (f : A → A) where
@@ -95,4 +95,4 @@ module _ {ℓ} {A : Type ℓ} (f : A → A) where
 -- a test on what stands in a column is one on the rows
 pub tally-map {ℓ κ} : {A : Type ℓ} {B : Type κ} (f : A → B) (p : B → Bool) (l : List A) → tally p (map f l) ≡ tally (λ a. p (f a)) l
 tally-map f p [] = refl
-tally-map f p (a ∷ l) = tally-cons p (f a) (map f l) ∙ ap (λ (k : ℕ). pick (p (f a)) (suc k) k) (tally-map f p l) ∙ sym (tally-cons (λ b. p (f b)) a l)
+tally-map f p (a ∷ l) = tally-cons p (f a) (map f l) ∙ ap (λ (k : ℕ). cond (p (f a)) (suc k) k) (tally-map f p l) ∙ sym (tally-cons (λ b. p (f b)) a l)

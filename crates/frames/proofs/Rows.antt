@@ -1,7 +1,7 @@
 -- The rows that a frame visits: those that don't apply stay, have no report and are no multiplexor.
 -- Assumes nothing.
 use mathlib.Core.Path.{_≡_, refl, sym, ap, _∙_}
-use mathlib.Core.Bool.{Bool, true, false}
+use mathlib.Core.Bool.{Bool, true, false, cond}
 use mathlib.Core.List.{List, [], _∷_, _++_, map}
 use Prim.Native.Nat.{ℕ, suc, _≤_, _<_}
 use native.Mathlib.Omega.{arith}
@@ -12,7 +12,7 @@ use lib.Seq.{length-take-le, getD-take, take-all}
 use Rattle.detector.specs.Ewma.{blank}
 use Rattle.table.specs.declared.Entry.{Entry}
 use Rattle.table.specs.declared.SignalIdsEngine.{SignalIdsEngine}
-use Rattle.table.specs.Rows.{pick, keep}
+use Rattle.table.specs.Rows.{keep}
 use Rattle.table.specs.Table.{rowsOf, idOf}
 use Rattle.table.proofs.Laws.{map-take, chosen, passed}
 use Rattle.table.proofs.Columns.{Sound, past, pastSignal, length-rows, row-is, ids-are}
@@ -30,7 +30,7 @@ types-same false false h = refl
 pub key-is : (a : ℕ) (f : Bool) (b : ℕ) (g : Bool) → sameKey a f b g ≡ true → (a ≡ b) × (f ≡ g)
 key-is a f b g = go (eqb a b) refl
   where
-    go : (t : Bool) → eqb a b ≡ t → pick t (same f g) false ≡ true → (a ≡ b) × (f ≡ g)
+    go : (t : Bool) → eqb a b ≡ t → cond t (same f g) false ≡ true → (a ≡ b) × (f ≡ g)
     go true e h = (eqb-true a b e, types-same f g h)
     go false e h = let z : _≡_ {A = ℕ} 0 1 = cc in absurd (omega arith)
 
@@ -45,13 +45,13 @@ read e i = record { id = getD (e .ids) i 0; signal = getD (e .signals) i pastSig
 -- ---- which rows apply
 module _ (id : ℕ) (x : Bool) (row : Entry) where
   pub not-named : eqb (row .id) id ≡ false → applies id x row ≡ false
-  not-named h = ap (λ (b : Bool). pick b (same (row .signal .definition .«is_extended») x) false) h
+  not-named h = ap (λ (b : Bool). cond b (same (row .signal .definition .«is_extended») x) false) h
 
   pub not-typed : eqb (row .id) id ≡ true → same (row .signal .definition .«is_extended») x ≡ false → applies id x row ≡ false
-  not-typed h k = ap (λ (b : Bool). pick b (same (row .signal .definition .«is_extended») x) false) h ∙ k
+  not-typed h k = ap (λ (b : Bool). cond b (same (row .signal .definition .«is_extended») x) false) h ∙ k
 
   pub both-same : eqb (row .id) id ≡ true → same (row .signal .definition .«is_extended») x ≡ true → applies id x row ≡ true
-  both-same h k = ap (λ (b : Bool). pick b (same (row .signal .definition .«is_extended») x) false) h ∙ k
+  both-same h k = ap (λ (b : Bool). cond b (same (row .signal .definition .«is_extended») x) false) h ∙ k
 
   pub not-selecting : eqb (row .id) id ≡ false → selects id x row ≡ false
   not-selecting h = passed _ _ refl (not-named h)
@@ -59,7 +59,7 @@ module _ (id : ℕ) (x : Bool) (row : Entry) where
 module _ (id : ℕ) (x : Bool) (s : List ℕ) (len : ℕ) where
   -- a row that doesn't apply stays
   pub next-stays : (m : Multiplexor) (row : Entry) → applies id x row ≡ false → nextOf id x s len m row ≡ row
-  next-stays m row h = ap (λ (b : Bool). (record { id = row .id; signal = row .signal; detector = pick b (stepRow s len m row .detector) (row .detector) })) h
+  next-stays m row h = ap (λ (b : Bool). (record { id = row .id; signal = row .signal; detector = cond b (stepRow s len m row .detector) (row .detector) })) h
 
   absent : (row : Entry) (l : List Entry) → tally (named id) (row ∷ l) ≡ 0 → (eqb (row .id) id ≡ false) × (tally (named id) l ≡ 0)
   absent row l h = go (eqb (row .id) id) refl
@@ -78,7 +78,7 @@ module _ (id : ℕ) (x : Bool) (s : List ℕ) (len : ℕ) where
   none-apply [] h = refl
   none-apply (row ∷ l) h =
       let a = absent row l h in
-      ap (λ (b : Bool). pick b (row ∷ keep (applies id x) l) (keep (applies id x) l)) (not-named id x row (a .0)) ∙ none-apply l (a .1)
+      ap (λ (b : Bool). cond b (row ∷ keep (applies id x) l) (keep (applies id x) l)) (not-named id x row (a .0)) ∙ none-apply l (a .1)
 
   pub none-selects : (l r : List Entry) → tally (named id) l ≡ 0 → multiplexorOf id x s len (l ++ r) ≡ multiplexorOf id x s len r
   none-selects [] r h = refl

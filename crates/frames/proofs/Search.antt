@@ -1,7 +1,7 @@
 -- The search for the multiplexor, from the last row to the first: the invariant of its loop, and each turn.
 -- Assumes nothing.
 use mathlib.Core.Path.{_≡_, refl, sym, ap, _∙_}
-use mathlib.Core.Bool.{Bool, true, false}
+use mathlib.Core.Bool.{Bool, true, false, cond}
 use mathlib.Core.List.{List, _∷_}
 use Prim.Native.Nat.{ℕ, suc, _-_, _≤_, _<_, min}
 use native.Mathlib.Omega.{arith}
@@ -9,7 +9,6 @@ use lib.Dec.{eqb}
 use lib.ListN.{getD, take, drop, length-take, take-append-drop, drop-of-length-le}
 use lib.Seq.{drop-cons}
 use Rattle.table.specs.declared.Entry.{Entry}
-use Rattle.table.specs.Rows.{pick}
 use Rattle.table.specs.Table.{live}
 use Rattle.table.proofs.Laws.{length-keep, passed}
 use Rattle.table.proofs.Columns.{Sound, past, live-is}
@@ -33,16 +32,16 @@ module _ (id : ℕ) (x : Bool) (s : List ℕ) (len : ℕ) (row : Entry) (l : Lis
   unfolding numberOr
   mux-named {m} h e g =
       g
-      ∙ ap (λ (k : Multiplexor). pick (same (row .signal .definition .«is_extended») x) (pick (row .signal .definition .«is_multiplexor») number k) k) e
+      ∙ ap (λ (k : Multiplexor). cond (same (row .signal .definition .«is_extended») x) (cond (row .signal .definition .«is_multiplexor») number k) k) e
       ∙ at (same (row .signal .definition .«is_extended») x)
       ∙ ap
       (λ (b : Bool).
-      pick (pick (pick b (same (row .signal .definition .«is_extended») x) false) (row .signal .definition .«is_multiplexor») false) number (multiplexorOf id x s len l))
+      cond (cond (cond b (same (row .signal .definition .«is_extended») x) false) (row .signal .definition .«is_multiplexor») false) number (multiplexorOf id x s len l))
       (sym h)
     where
       at : (b : Bool)
-          → pick b (pick (row .signal .definition .«is_multiplexor») number (multiplexorOf id x s len l)) (multiplexorOf id x s len l)
-          ≡ pick (pick b (row .signal .definition .«is_multiplexor») false) number (multiplexorOf id x s len l)
+          → cond b (cond (row .signal .definition .«is_multiplexor») number (multiplexorOf id x s len l)) (multiplexorOf id x s len l)
+          ≡ cond (cond b (row .signal .definition .«is_multiplexor») false) number (multiplexorOf id x s len l)
       at true = refl
       at false = refl
 

@@ -1,7 +1,7 @@
 -- What document 01, "One frame", says of every frame, as theorems about the definitions that the promises cite.
 -- Assumes nothing.
 use mathlib.Core.Path.{_≡_, refl, sym, ap, _∙_, subst}
-use mathlib.Core.Bool.{Bool, true, false}
+use mathlib.Core.Bool.{Bool, true, false, cond}
 use mathlib.Core.List.{List, [], _∷_, _++_, map, flatMap}
 use Prim.Native.Nat.{ℕ, zero, suc, _+_, _^_, _≤_, _<_, min}
 use native.Mathlib.Omega.{arith}
@@ -18,7 +18,7 @@ use Rattle.detector.specs.Ewma.{updated}
 use Rattle.table.specs.declared.Signal.{Signal}
 use Rattle.table.specs.declared.Entry.{Entry}
 use Rattle.table.specs.declared.SignalIdsEngine.{SignalIdsEngine}
-use Rattle.table.specs.Rows.{pick, keep, every}
+use Rattle.table.specs.Rows.{keep, every}
 use Rattle.table.specs.Table.{joined, rowsOf, live, detectorOf, tableOf, withRows, fault}
 use Rattle.table.specs.Regular.{Proper, Regular}
 use Rattle.table.proofs.Laws.{chosen, passed, map-take}
@@ -71,14 +71,14 @@ pub means-apart : (a b : Outcome) → outcomeMeans a ≡ outcomeMeans b → a �
 means-apart a b h = sym (same-outcome a) ∙ ap outcomeFor h ∙ same-outcome b
 
 -- ---- the count of anomalies is that of flagged outcomes, at most eight
-one-flag : (r : Report) → length (flagged r) ≡ pick (isFlagged (outcomeMeans (r .outcome))) 1 0
+one-flag : (r : Report) → length (flagged r) ≡ cond (isFlagged (outcomeMeans (r .outcome))) 1 0
 one-flag r = at (r .outcome)
   where
-    whether : (v z : _) (flag : Bool) → length (anomaly (r .slot) (scored v z flag)) ≡ pick flag 1 0
+    whether : (v z : _) (flag : Bool) → length (anomaly (r .slot) (scored v z flag)) ≡ cond flag 1 0
     whether v z true = refl
     whether v z false = refl
 
-    at : (o : Outcome) → length (anomaly (r .slot) (outcomeMeans o)) ≡ pick (isFlagged (outcomeMeans o)) 1 0
+    at : (o : Outcome) → length (anomaly (r .slot) (outcomeMeans o)) ≡ cond (isFlagged (outcomeMeans o)) 1 0
     at PassedOver = refl
     at NoValue = refl
     at (First v) = refl
@@ -91,11 +91,11 @@ all-flags [] = refl
 all-flags (r ∷ l) =
     length-append (flagged r) (flatMap flagged l)
     ∙ ap (λ (k : ℕ). k + length (flatMap flagged l)) (one-flag r)
-    ∙ ap (λ (k : ℕ). pick (isFlagged (outcomeMeans (r .outcome))) 1 0 + k) (all-flags l)
+    ∙ ap (λ (k : ℕ). cond (isFlagged (outcomeMeans (r .outcome))) 1 0 + k) (all-flags l)
     ∙ at (isFlagged (outcomeMeans (r .outcome)))
     ∙ sym (tally-cons (λ q. isFlagged (outcomeMeans (q .outcome))) r l)
   where
-    at : (b : Bool) → pick b 1 0 + flags l ≡ pick b (suc (flags l)) (flags l)
+    at : (b : Bool) → cond b 1 0 + flags l ≡ cond b (suc (flags l)) (flags l)
     at true = omega arith
     at false = omega arith
 
@@ -166,7 +166,7 @@ none-move id x s n m (row ∷ l) h = go (λ k. none-move id x s n m l k) (applie
     go : (keep (applies id x) l ≡ [] → map (nextOf id x s n m) l ≡ l)
         → (b : Bool)
         → applies id x row ≡ b
-        → pick b (row ∷ keep (applies id x) l) (keep (applies id x) l) ≡ []
+        → cond b (row ∷ keep (applies id x) l) (keep (applies id x) l) ≡ []
         → map (nextOf id x s n m) (row ∷ l) ≡ row ∷ l
     go rest true e k = absurd (omega (arith, ap length k))
     go rest false e k = ap (λ (r : Entry). r ∷ map (nextOf id x s n m) l) (next-stays id x s n m row e) ∙ ap (λ (r : List Entry). row ∷ r) (rest k)
@@ -204,7 +204,7 @@ numbers-fit id x s n next (row ∷ l) p k h =
     go : (multiplexorOf id x s n l ≡ Number k → k < 65536)
         → (a b : Bool)
         → row .signal .definition .«is_multiplexor» ≡ b
-        → pick (pick a b false) (numberOf s n (row .signal .definition)) (multiplexorOf id x s n l) ≡ Number k
+        → cond (cond a b false) (numberOf s n (row .signal .definition)) (multiplexorOf id x s n l) ≡ Number k
         → k < 65536
     go rest true true f q = number-below s n (row .signal .definition) k (p .0 .passes) f q
     go rest true false f q = rest q
@@ -218,7 +218,7 @@ none-above : (id : ℕ) → 0x7FF < id → (next : ℕ) (l : List Entry) → eve
 none-above id h next [] p = refl
 none-above id h next (row ∷ l) p = go (none-above id h next l (p .1)) (applies id false row) refl
   where
-    go : keep (applies id false) l ≡ [] → (b : Bool) → applies id false row ≡ b → pick (applies id false row) (row ∷ keep (applies id false) l) (keep (applies id false) l) ≡ []
+    go : keep (applies id false) l ≡ [] → (b : Bool) → applies id false row ≡ b → cond (applies id false row) (row ∷ keep (applies id false) l) (keep (applies id false) l) ≡ []
     go rest true e =
         let k = key-is (row .id) (row .signal .definition .«is_extended») id false e in
         absurd (omega (arith, k .0, p .0 .id-is, passing (row .signal .definition) (p .0 .passes) .standard (k .1)))

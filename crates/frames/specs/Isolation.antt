@@ -2,7 +2,7 @@
 -- Here stand the calls, a run of compiled calls, and what of it concerns a key, which is an effective identifier with a frame type (document 01, "One frame").
 -- Assumes nothing.
 use mathlib.Core.Path.{_≡_}
-use mathlib.Core.Bool.{Bool, true, false}
+use mathlib.Core.Bool.{Bool, true, false, cond}
 use mathlib.Core.List.{List, [], _∷_}
 use Prim.Native.Nat.{ℕ}
 use Rattle.conversion.specs.declared.SignalDefinition.{SignalDefinition}
@@ -10,7 +10,7 @@ use Rattle.table.specs.declared.Answer.{Answer}
 use Rattle.table.specs.declared.Defined.{Defined}
 use Rattle.table.specs.declared.Entry.{Entry}
 use Rattle.table.specs.declared.SignalIdsEngine.{SignalIdsEngine}
-use Rattle.table.specs.Rows.{pick, keep}
+use Rattle.table.specs.Rows.{keep}
 use Rattle.table.specs.Table.{live, tableOf, defined, define′, batch′, remove′}
 use Rattle.table.specs.Calls.{TableCall, defines, batches, removes, told}
 use Rattle.frames.specs.declared.CanFrame.{CanFrame}
@@ -84,7 +84,7 @@ concerns id extended (rawFramed i s n) = sameKey i false id extended
 abbrev pub answersTo : (Call → Bool) → List Call → List Said → List Said
 answersTo p [] heard = []
 answersTo p (c ∷ cs) [] = []
-answersTo p (c ∷ cs) (a ∷ heard) = pick (p c) (a ∷ answersTo p cs heard) (answersTo p cs heard)
+answersTo p (c ∷ cs) (a ∷ heard) = cond (p c) (a ∷ answersTo p cs heard) (answersTo p cs heard)
 
 -- the key's definitions with their slots and detectors, in table order
 abbrev pub ofKey : ℕ → Bool → SignalIdsEngine → List Entry

@@ -67,13 +67,13 @@ stable n (a ∷ b ∷ s) t = go (eqb n 4294967295) refl
         let h = eqb-false n 4294967295 q in
         let p = placed n (a ∷ b ∷ s) (λ z. omega arith) h (λ z. omega arith) in
         let p′ = placed n (a ∷ b ∷ (s ++ t)) (λ z. omega arith) h (λ z. omega arith) in
-        pick p p′ (placed-stable n (a ∷ b ∷ s) t (markOf a b))
+        cond p p′ (placed-stable n (a ∷ b ∷ s) t (markOf a b))
       where
-        pick : itemOf n (a ∷ b ∷ s) ≡ marked n (a ∷ b ∷ s) (markOf a b) → itemOf n (a ∷ b ∷ (s ++ t)) ≡ marked n (a ∷ b ∷ (s ++ t)) (markOf a b)
+        cond : itemOf n (a ∷ b ∷ s) ≡ marked n (a ∷ b ∷ s) (markOf a b) → itemOf n (a ∷ b ∷ (s ++ t)) ≡ marked n (a ∷ b ∷ (s ++ t)) (markOf a b)
             → (marked n (a ∷ b ∷ s) (markOf a b) ≡ Item.Wait) ⊎ (marked n (a ∷ b ∷ (s ++ t)) (markOf a b) ≡ marked n (a ∷ b ∷ s) (markOf a b))
             → (itemOf n (a ∷ b ∷ s) ≡ Item.Wait) ⊎ (itemOf n (a ∷ b ∷ (s ++ t)) ≡ itemOf n (a ∷ b ∷ s))
-        pick p p′ (inl w) = inl (p ∙ w)
-        pick p p′ (inr w) = inr (p′ ∙ w ∙ sym p)
+        cond p p′ (inl w) = inl (p ∙ w)
+        cond p p′ (inr w) = inr (p′ ∙ w ∙ sym p)
 
 -- ---- nor a step but one that waits
 
@@ -96,12 +96,12 @@ step-stable false log s t h = go (stable (log .count) s t)
   where
     go : (itemOf (log .count) s ≡ Item.Wait) ⊎ (itemOf (log .count) (s ++ t) ≡ itemOf (log .count) s) → (stepOf false log s ≡ waiting log) ⊎ (stepOf true log (s ++ t) ≡ stepOf false log s)
     go (inl q) = inl (ap (itemStep false log s) q)
-    go (inr q) = pick (item-same log s t (itemOf (log .count) s) (item-taken (log .count) s))
+    go (inr q) = cond (item-same log s t (itemOf (log .count) s) (item-taken (log .count) s))
       where
-        pick : (itemStep false log s (itemOf (log .count) s) ≡ waiting log) ⊎ (itemStep true log (s ++ t) (itemOf (log .count) s) ≡ itemStep false log s (itemOf (log .count) s))
+        cond : (itemStep false log s (itemOf (log .count) s) ≡ waiting log) ⊎ (itemStep true log (s ++ t) (itemOf (log .count) s) ≡ itemStep false log s (itemOf (log .count) s))
             → (stepOf false log s ≡ waiting log) ⊎ (stepOf true log (s ++ t) ≡ stepOf false log s)
-        pick (inl w) = inl w
-        pick (inr w) = inr (ap (itemStep true log (s ++ t)) q ∙ w)
+        cond (inl w) = inl w
+        cond (inr w) = inr (ap (itemStep true log (s ++ t)) q ∙ w)
 
 -- at the end of the input no step waits
 never-waits : (log : Log) (s : List ℕ) → stepOf true log s ≡ waiting log → ⊥

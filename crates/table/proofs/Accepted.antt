@@ -1,7 +1,7 @@
 -- When a table call is accepted, and with what.
 -- Assumes nothing.
 use mathlib.Core.Path.{_≡_, refl}
-use mathlib.Core.Bool.{Bool, true, false, not}
+use mathlib.Core.Bool.{Bool, true, false, not, cond}
 use mathlib.Core.List.{List, [], _∷_}
 use mathlib.Core.Logic.{_⊎_, inl, inr}
 use Prim.Native.Nat.{ℕ, _+_, _-_, _≤_, _<_}
@@ -12,7 +12,7 @@ use borrow.Author.Tests.{eqb-true, eqb-false, ltb-true, leb-true}
 use Rattle.conversion.specs.declared.SignalDefinition.{SignalDefinition}
 use Rattle.table.specs.declared.Answer.{Answer}
 use Rattle.table.specs.declared.Answer.the-variants.{Slot, Done}
-use Rattle.table.specs.Rows.{pick, every, some}
+use Rattle.table.specs.Rows.{every, some}
 use Rattle.table.specs.Table.{Table, accepted, refused, fault, faults, slotsOk, has, define′, added, remove′, without, batch′, appendedAll}
 
 -- define: the five tests are passed, there is room and a slot number
@@ -27,7 +27,7 @@ pub define-accepted : (t : Table) (d : SignalDefinition) (a : Answer) (u : Table
 define-accepted t d a u = go (eqb (fault d) 0) refl (ltb (length (t .rows)) 64) refl (eqb (t .next) 65535) refl
   where
     go : (b : Bool) → eqb (fault d) 0 ≡ b → (c : Bool) → ltb (length (t .rows)) 64 ≡ c → (f : Bool) → eqb (t .next) 65535 ≡ f
-        → pick b (pick c (pick f (refused 4) (accepted (Slot (t .next)) (added t d))) (refused 4)) (refused (fault d)) ≡ accepted a u
+        → cond b (cond c (cond f (refused 4) (accepted (Slot (t .next)) (added t d))) (refused 4)) (refused (fault d)) ≡ accepted a u
         → DefineAccepted t d a u
     go true p true q false r h =
         record {
@@ -50,7 +50,7 @@ pub record RemoveAccepted (t : Table) (s : ℕ) (a : Answer) (u : Table) : Type 
 pub remove-accepted : (t : Table) (s : ℕ) (a : Answer) (u : Table) → remove′ t s ≡ accepted a u → RemoveAccepted t s a u
 remove-accepted t s a u = go (some (has s) (t .rows)) refl
   where
-    go : (b : Bool) → some (has s) (t .rows) ≡ b → pick b (accepted Done (without t s)) (refused 3) ≡ accepted a u → RemoveAccepted t s a u
+    go : (b : Bool) → some (has s) (t .rows) ≡ b → cond b (accepted Done (without t s)) (refused 3) ≡ accepted a u → RemoveAccepted t s a u
     go true p h = record { there = p; answer = cc; table = cc }
     go false p h = let z : _≡_ {A = ℕ} 0 1 = cc in absurd (omega arith)
 
@@ -67,7 +67,7 @@ pub faultless : (l : List SignalDefinition) → faults l ≡ 0 → every (λ d. 
 faultless [] h = tt
 faultless (d ∷ l) h = go (eqb (fault d) 0) refl h (λ k. faultless l k)
   where
-    go : (b : Bool) → eqb (fault d) 0 ≡ b → pick (not b) (fault d) (faults l) ≡ 0 → (faults l ≡ 0 → every (λ c. fault c ≡ 0) l) → (fault d ≡ 0) × every (λ c. fault c ≡ 0) l
+    go : (b : Bool) → eqb (fault d) 0 ≡ b → cond (not b) (fault d) (faults l) ≡ 0 → (faults l ≡ 0 → every (λ c. fault c ≡ 0) l) → (fault d ≡ 0) × every (λ c. fault c ≡ 0) l
     go true p k rest = (eqb-true (fault d) 0 p, rest k)
     go false p k rest = absurd (eqb-false (fault d) 0 p k)
 
@@ -76,7 +76,7 @@ batch-accepted t ds n a u =
     go (leb (length (t .rows) + n) 64) refl (eqb (faults (take n ds)) 0) refl (slotsOk n (t .next)) refl
   where
     go : (b : Bool) → leb (length (t .rows) + n) 64 ≡ b → (c : Bool) → eqb (faults (take n ds)) 0 ≡ c → (f : Bool) → slotsOk n (t .next) ≡ f
-        → pick b (pick c (pick f (accepted Done (appendedAll t (take n ds))) (refused 4)) (refused (faults (take n ds)))) (refused 4) ≡ accepted a u
+        → cond b (cond c (cond f (accepted Done (appendedAll t (take n ds))) (refused 4)) (refused (faults (take n ds)))) (refused 4) ≡ accepted a u
         → BatchAccepted t ds n a u
     go true p true q true r h =
         record {
@@ -96,7 +96,7 @@ unfolding slotsOk
 slots-enough n next h = go (eqb n 0) refl (eqb next 65535) refl (leb n 1) refl
   where
     go : (b : Bool) → eqb n 0 ≡ b → (c : Bool) → eqb next 65535 ≡ c → (f : Bool) → leb n 1 ≡ f
-        → pick b true (pick c false (pick f true (leb n (65535 - next + 1)))) ≡ true
+        → cond b true (cond c false (cond f true (leb n (65535 - next + 1)))) ≡ true
         → (n ≡ 0) ⊎ ((next < 65535) × (next + n ≤ 65536))
     go true p c q f r k = inl (eqb-true n 0 p)
     go false p true q f r k = let z : _≡_ {A = ℕ} 0 1 = cc in absurd (omega arith)

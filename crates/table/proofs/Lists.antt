@@ -1,13 +1,13 @@
 -- What a list's rows have, each or pair by pair, after an insertion, a removal or a move.
 -- Assumes nothing.
 use mathlib.Core.Path.{_≡_, refl}
-use mathlib.Core.Bool.{Bool, true, false}
+use mathlib.Core.Bool.{Bool, true, false, cond}
 use mathlib.Core.List.{List, [], _∷_, _++_, map}
 use Prim.Native.Nat.{ℕ, _+_, _≤_, _<_}
 use native.Mathlib.Omega.{arith}
 use lib.Dec.{ltb}
 use borrow.Author.Tests.{ltb-true, ltb-false}
-use Rattle.table.specs.Rows.{pick, insertBehind, dropFirst, every, pairs}
+use Rattle.table.specs.Rows.{insertBehind, dropFirst, every, pairs}
 
 module _ {A : Type 0} where
   pub every-weaken : (P Q : A → Type 0) → ((a : A) → P a → Q a) → (l : List A) → every P l → every Q l
@@ -26,7 +26,7 @@ module _ {A : Type 0} where
   every-insert P p x [] h e = (h, tt)
   every-insert P p x (y ∷ l) h e = at (every-insert P p x l h (e .1)) (p y)
     where
-      at : every P (insertBehind p x l) → (b : Bool) → every P (pick b (y ∷ insertBehind p x l) (x ∷ y ∷ l))
+      at : every P (insertBehind p x l) → (b : Bool) → every P (cond b (y ∷ insertBehind p x l) (x ∷ y ∷ l))
       at i true = (e .0, i)
       at i false = (h, e)
 
@@ -35,7 +35,7 @@ module _ {A : Type 0} where
   pairs-insert R p x [] h q = (tt, tt)
   pairs-insert R p x (y ∷ l) h q = at (pairs-insert R p x l (h .1) (q .1)) (p y)
     where
-      at : pairs R (insertBehind p x l) → (b : Bool) → pairs R (pick b (y ∷ insertBehind p x l) (x ∷ y ∷ l))
+      at : pairs R (insertBehind p x l) → (b : Bool) → pairs R (cond b (y ∷ insertBehind p x l) (x ∷ y ∷ l))
       at i true = (every-insert (R y) p x l (h .0 .0) (q .0), i)
       at i false = (every-weaken (λ a. R a x × R x a) (R x) (λ a k. k .1) (y ∷ l) h, q)
 
@@ -52,7 +52,7 @@ module _ {A : Type 0} where
       at : pairs (λ a b. f a ≤ f b) (insertBehind (λ z. ltb (f z) q) x l)
           → (b : Bool)
           → ltb (f y) q ≡ b
-          → pairs (λ a b. f a ≤ f b) (pick b (y ∷ insertBehind (λ z. ltb (f z) q) x l) (x ∷ y ∷ l))
+          → pairs (λ a b. f a ≤ f b) (cond b (y ∷ insertBehind (λ z. ltb (f z) q) x l) (x ∷ y ∷ l))
       at i true e =
           let lower : f y < q = ltb-true (f y) q e in
           (every-insert (λ a. f y ≤ f a) (λ z. ltb (f z) q) x l (omega arith) (s .0), i)
@@ -65,7 +65,7 @@ module _ {A : Type 0} where
   every-drop P p [] e = tt
   every-drop P p (y ∷ l) e = at (every-drop P p l (e .1)) (p y)
     where
-      at : every P (dropFirst p l) → (b : Bool) → every P (pick b l (y ∷ dropFirst p l))
+      at : every P (dropFirst p l) → (b : Bool) → every P (cond b l (y ∷ dropFirst p l))
       at i true = e .1
       at i false = (e .0, i)
 
@@ -73,7 +73,7 @@ module _ {A : Type 0} where
   pairs-drop R p [] q = tt
   pairs-drop R p (y ∷ l) q = at (pairs-drop R p l (q .1)) (p y)
     where
-      at : pairs R (dropFirst p l) → (b : Bool) → pairs R (pick b l (y ∷ dropFirst p l))
+      at : pairs R (dropFirst p l) → (b : Bool) → pairs R (cond b l (y ∷ dropFirst p l))
       at i true = q .1
       at i false = (every-drop (R y) p l (q .0), i)
 

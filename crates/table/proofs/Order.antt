@@ -1,7 +1,7 @@
 -- The table's order: what an accepted call puts before, and behind, the rows of the same identifier; with sortedness this leaves one table.
 -- Assumes nothing.
 use mathlib.Core.Path.{_≡_, refl, sym, ap, _∙_, subst}
-use mathlib.Core.Bool.{Bool, true, false}
+use mathlib.Core.Bool.{Bool, true, false, cond}
 use mathlib.Core.Logic.{⊎-elim}
 use mathlib.Core.List.{List, [], _∷_, _++_, append-nil, append-assoc}
 use Prim.Native.Nat.{ℕ, _+_, _≤_, _<_}
@@ -13,7 +13,7 @@ use borrow.Author.Tests.{eq-eqb, ne-eqb, eqb-true, ltb-true, ltb-false}
 use Rattle.conversion.specs.declared.SignalDefinition.{SignalDefinition}
 use Rattle.table.specs.declared.Answer.{Answer}
 use Rattle.table.specs.declared.Entry.{Entry}
-use Rattle.table.specs.Rows.{pick, insertBehind, every}
+use Rattle.table.specs.Rows.{insertBehind, every}
 use Rattle.table.specs.Table.{Table, accepted, entryOf, below, appended, appendedAll}
 use Rattle.table.specs.Calls.{TableCall, defines, batches, removes, told, newRows, rowsBefore, rowsBehind, rowsLeft}
 use Rattle.table.specs.Regular.{Sorted, Regular, ofId, Order}
@@ -42,7 +42,7 @@ insert-before k x (y ∷ l) = at (insert-before k x l) (ltb (y .id) (x .id)) ref
         → eqb (y .id) k ≡ c
         → (f : Bool)
         → eqb (x .id) k ≡ f
-        → ofId k (pick b (y ∷ insertBehind (below (x .id)) x l) (x ∷ y ∷ l)) ≡ ofId k (x ∷ []) ++ ofId k (y ∷ l)
+        → ofId k (cond b (y ∷ insertBehind (below (x .id)) x l) (x ∷ y ∷ l)) ≡ ofId k (x ∷ []) ++ ofId k (y ∷ l)
     at i false p c q f r = of-cons k x (y ∷ l)
     at i true p true q true r = absurd (omega (arith, ltb-true (y .id) (x .id) p, eqb-true (y .id) k q, eqb-true (x .id) k r))
     at i true p true q false r = rw (q, r) (ap (λ (m : List Entry). y ∷ m) (i ∙ rw r))
@@ -60,7 +60,7 @@ insert-behind k x (y ∷ l) s = at (insert-behind k x l (s .1)) (ltb (y .id) (x 
         → eqb (y .id) k ≡ c
         → (f : Bool)
         → eqb (x .id) k ≡ f
-        → ofId k (pick b (y ∷ insertBehind (below (x .id + 1)) x l) (x ∷ y ∷ l)) ≡ ofId k (y ∷ l) ++ ofId k (x ∷ [])
+        → ofId k (cond b (y ∷ insertBehind (below (x .id + 1)) x l) (x ∷ y ∷ l)) ≡ ofId k (y ∷ l) ++ ofId k (x ∷ [])
     at i true p true q f r = rw q (ap (λ (m : List Entry). y ∷ m) i)
     at i true p false q f r = rw q i
     at i false p c q false r = of-cons k x (y ∷ l) ∙ rw r (sym (append-nil (ofId k (y ∷ l))))
@@ -146,7 +146,7 @@ order-only (a ∷ l) (b ∷ m) s r h = ap (λ (x : Entry). x ∷ l) heads ∙ ap
     tails : (k : ℕ) → ofId k l ≡ ofId k m
     tails k = at (eqb (a .id) k) refl (eqb (b .id) k) (sym (ap (λ (x : Entry). eqb (x .id) k) heads)) (h k)
       where
-        at : (c : Bool) → eqb (a .id) k ≡ c → (f : Bool) → f ≡ eqb (a .id) k → pick c (a ∷ ofId k l) (ofId k l) ≡ pick f (b ∷ ofId k m) (ofId k m) → ofId k l ≡ ofId k m
+        at : (c : Bool) → eqb (a .id) k ≡ c → (f : Bool) → f ≡ eqb (a .id) k → cond c (a ∷ ofId k l) (ofId k l) ≡ cond f (b ∷ ofId k m) (ofId k m) → ofId k l ≡ ofId k m
         at true p true q e = cc
         at false p false q e = e
         at true p false q e = let z : _≡_ {A = Bool} true false = cc in let y : _≡_ {A = ℕ} 0 1 = cc in absurd (omega arith)

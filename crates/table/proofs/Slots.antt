@@ -1,7 +1,7 @@
 -- Slots: calls give them rising from the next slot on and never again, and each live row has a slot and a definition that a call was given.
 -- Assumes nothing.
 use mathlib.Core.Path.{_≡_, refl, sym, ap, _∙_, subst}
-use mathlib.Core.Bool.{Bool, true, false}
+use mathlib.Core.Bool.{Bool, true, false, cond}
 use mathlib.Core.Logic.{_⊎_, inl, inr, ⊎-elim}
 use mathlib.Core.List.{List, [], _∷_, _++_, append-nil, append-assoc}
 use Prim.Native.Nat.{ℕ, _+_, _≤_, _<_, min}
@@ -15,7 +15,7 @@ use Rattle.detector.specs.declared.EwmaDetector.{EwmaDetector}
 use Rattle.table.specs.declared.Answer.{Answer}
 use Rattle.table.specs.declared.Signal.{Signal}
 use Rattle.table.specs.declared.Entry.{Entry}
-use Rattle.table.specs.Rows.{pick, keep, some, dropFirst, insertBehind, every, among}
+use Rattle.table.specs.Rows.{keep, some, dropFirst, insertBehind, every, among}
 use Rattle.table.specs.Table.{Table, Told, accepted, refused, emptyTable, entryOf, below, has, appended, appendedAll}
 use Rattle.table.specs.Calls.{TableCall, defines, batches, removes, told, left, ran, brought, numbered, given, granted}
 use Rattle.table.specs.Regular.{Apart, Rising, Regular}
@@ -207,7 +207,7 @@ pub at-most-one : (s : ℕ) (l : List Entry) → Apart l → length (keep (has s
 at-most-one s [] h = omega arith
 at-most-one s (r ∷ l) h = at (eqb (r .signal .slot) s) refl (at-most-one s l (h .1))
   where
-    at : (b : Bool) → eqb (r .signal .slot) s ≡ b → length (keep (has s) l) ≤ 1 → length (pick b (r ∷ keep (has s) l) (keep (has s) l)) ≤ 1
+    at : (b : Bool) → eqb (r .signal .slot) s ≡ b → length (keep (has s) l) ≤ 1 → length (cond b (r ∷ keep (has s) l) (keep (has s) l)) ≤ 1
     at false e i = i
     at true e i =
         let is : r .signal .slot ≡ s = eqb-true (r .signal .slot) s e in
@@ -219,7 +219,7 @@ pub removed-gone : (s : ℕ) (l : List Entry) → Apart l → some (has s) (drop
 removed-gone s [] h = refl
 removed-gone s (r ∷ l) h = at (eqb (r .signal .slot) s) refl (removed-gone s l (h .1))
   where
-    at : (b : Bool) → eqb (r .signal .slot) s ≡ b → some (has s) (dropFirst (has s) l) ≡ false → some (has s) (pick b l (r ∷ dropFirst (has s) l)) ≡ false
+    at : (b : Bool) → eqb (r .signal .slot) s ≡ b → some (has s) (dropFirst (has s) l) ≡ false → some (has s) (cond b l (r ∷ dropFirst (has s) l)) ≡ false
     at false e i = rw e i
     at true e i =
         let is : r .signal .slot ≡ s = eqb-true (r .signal .slot) s e in

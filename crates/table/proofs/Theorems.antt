@@ -1,7 +1,7 @@
 -- What follows of the promises: a definition that passes the tests, the count of rows, the end of the slots, and what an answer says.
 -- Assumes nothing.
 use mathlib.Core.Path.{_≡_, refl, sym, ap, _∙_}
-use mathlib.Core.Bool.{Bool, true, false, _&&_}
+use mathlib.Core.Bool.{Bool, true, false, _&&_, cond}
 use mathlib.Core.List.{[], _∷_}
 use Prim.Native.Nat.{ℕ, _+_, _≤_}
 use native.Mathlib.Decide.{decLe}
@@ -14,7 +14,7 @@ use Rattle.conversion.specs.declared.SignalDefinition.{SignalDefinition}
 use Rattle.table.specs.declared.Answer.{Answer}
 use Rattle.table.specs.declared.Answer.the-variants.{Slot, Done, Refused}
 use Rattle.table.specs.declared.SignalIdsEngine.{SignalIdsEngine}
-use Rattle.table.specs.Rows.{pick, every}
+use Rattle.table.specs.Rows.{every}
 use Rattle.table.specs.Table.{Table, Told, accepted, refused, tableOf, defined, lengthOk, scaleOk, idOk, muxOk, signOk, fault, entryOf, below, has, define′, faults, slotsOk, batch′, appendedAll}
 use Rattle.table.specs.Calls.{TableCall, defines, batches, removes, told, brought, numbered, takenOut}
 use Rattle.table.specs.Regular.{Proper, Regular}
@@ -38,7 +38,7 @@ both-true : (a b : Bool) → (a && b) ≡ true → (a ≡ true) × (b ≡ true)
 both-true true b h = (refl, h)
 both-true false b h = let z : _≡_ {A = ℕ} 0 1 = cc in absurd (omega arith)
 
-low-id : (x : Bool) (n : ℕ) → n ≤ pick x 0x1FFFFFFF 0x7FF → n ≤ 0x1FFFFFFF
+low-id : (x : Bool) (n : ℕ) → n ≤ cond x 0x1FFFFFFF 0x7FF → n ≤ 0x1FFFFFFF
 low-id true n h = h
 low-id false n h = omega arith
 
@@ -47,21 +47,21 @@ unfolding lengthOk scaleOk idOk muxOk signOk
 passing d = go (lengthOk d) refl (scaleOk d) refl (idOk d) refl (muxOk d) refl (signOk d) refl
   where
     go : (a : Bool) → lengthOk d ≡ a → (b : Bool) → scaleOk d ≡ b → (c : Bool) → idOk d ≡ c → (f : Bool) → muxOk d ≡ f → (g : Bool) → signOk d ≡ g
-        → _≡_ {A = ℕ} (pick a (pick b (pick c (pick f (pick g 0 3) 3) 3) 3) 2) 0
+        → _≡_ {A = ℕ} (cond a (cond b (cond c (cond f (cond g 0 3) 3) 3) 3) 2) 0
         → Passing d
     go true p true q true r true s true t h =
         let length-is = both-true (leb 1 (d .«bit_length»)) (leb (d .«bit_length») 64) p in
         let finite-are = both-true (finite (d .scale)) (finite (d .offset)) q in
-        let id-is : d .«can_id» ≤ pick (d .«is_extended») 0x1FFFFFFF 0x7FF = leb-true (d .«can_id») (pick (d .«is_extended») 0x1FFFFFFF 0x7FF) r in
+        let id-is : d .«can_id» ≤ cond (d .«is_extended») 0x1FFFFFFF 0x7FF = leb-true (d .«can_id») (cond (d .«is_extended») 0x1FFFFFFF 0x7FF) r in
         record {
           long = leb-true 1 (d .«bit_length») (length-is .0);
           short = leb-true (d .«bit_length») 64 (length-is .1);
           scale = finite-are .0;
           offset = finite-are .1;
-          standard = λ e. omega (arith, ap {B = ℕ} (λ (x : Bool). pick x 0x1FFFFFFF 0x7FF) e);
+          standard = λ e. omega (arith, ap {B = ℕ} (λ (x : Bool). cond x 0x1FFFFFFF 0x7FF) e);
           extended = low-id (d .«is_extended») (d .«can_id») id-is;
-          multiplexor = λ e. leb-true (d .«bit_length») 16 (sym (ap (λ (x : Bool). pick x (leb (d .«bit_length») 16) true) e) ∙ s);
-          sign = λ e. leb-true 2 (d .«bit_length») (sym (ap (λ (x : Bool). pick x (leb 2 (d .«bit_length»)) true) e) ∙ t);
+          multiplexor = λ e. leb-true (d .«bit_length») 16 (sym (ap (λ (x : Bool). cond x (leb (d .«bit_length») 16) true) e) ∙ s);
+          sign = λ e. leb-true 2 (d .«bit_length») (sym (ap (λ (x : Bool). cond x (leb 2 (d .«bit_length»)) true) e) ∙ t);
         }
     go true p true q true r true s false t h = absurd (omega arith)
     go true p true q true r false s g t h = absurd (omega arith)

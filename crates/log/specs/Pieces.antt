@@ -48,6 +48,7 @@ pub record Does (d : List ℕ) (at : ℕ) (m : Move) (r : Step) (e : List ℕ) :
   pub put : Put d at (m .text) (r .end) e
   pub status : r .status ≡ m .status
 
+-- what a call answers
 abbrev pub answerOf : Log → ℕ → ℕ → Status → Step
 answerOf log used end status = record { log = log; used = used; end = end; status = status }
 

@@ -8,6 +8,7 @@ use conversion::Condition;
 use conversion::SignalDefinition;
 use conversion::f32_of_bits;
 
+// The two bytes in front of a record.
 pub enum Mark {
     Settings,
     Definition,
@@ -23,6 +24,7 @@ pub enum Request {
     Remove(u16),
 }
 
+// What may stand at the front of the bytes.
 pub enum Item {
     // the bytes at hand are none, or a part of a record
     Wait,
@@ -47,6 +49,7 @@ fn wide16(b: u8) -> u16
     b as u16
 }
 
+// Little-endian numbers at a place.
 fn u16_at(s: &[u8], i: usize) -> u16
     requires { ⌜ i + 1 < length (now s) ⌝ }
     ensures { λ r. ⌜ r ≡ le16 (now (s .entry)) i ⌝ }

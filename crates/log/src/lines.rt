@@ -2,8 +2,7 @@
 ghost use mathlib.Core.Path.{_≡_};
 ghost use Prim.Native.Nat.{_+_, _<_, _≤_, _*_};
 ghost use lib.ListN.{length, take};
-ghost use Rattle.log.specs.Lines.{Put, upper, hex8, decimal, numbers, line, field, answerLine, anomalyLine, anomalyLines, endLine, textOf};
-ghost use Rattle.log.specs.Lines.{renderedOf, bufferOf};
+ghost use Rattle.log.specs.Lines.{Put, upper, hex8, decimal, numbers, line, field, answerLine, anomalyLine, anomalyLines, endLine, textOf, renderedOf, bufferOf};
 use conversion::bits_of_f32;
 use frames::SignalAnomaly;
 use table::Answer;
@@ -23,6 +22,7 @@ pub enum Rendered {
     NoRoom,
 }
 
+// The text as it is.
 fn put(out: &mut [u8], at: usize, text: &[u8]) -> usize
     requires { ⌜ at + length (now text) ≤ length (now out) ⌝ }
     ensures { λ r. ⌜ Put (now (out .entry)) at (now (text .entry)) r (now (out .exit)) ⌝ }
@@ -35,6 +35,7 @@ fn put(out: &mut [u8], at: usize, text: &[u8]) -> usize
     at + i
 }
 
+// An upper-case hexadecimal digit.
 fn digit(d: u32) -> u8
     requires { ⌜ d < 16 ⌝ }
     ensures { λ r. ⌜ r ≡ upper d ⌝ }
@@ -109,6 +110,7 @@ fn put_line(out: &mut [u8], at: usize, letter: &[u8], n: u32, word: &[u8], k: u3
     put(out, a, b"\n")
 }
 
+// A word and a float's bits.
 fn put_field(out: &mut [u8], at: usize, word: &[u8], x: f32) -> usize
     requires { ⌜ at + length (now word) + 8 ≤ length (now out) ⌝ }
     ensures { λ r. ⌜ Put (now (out .entry)) at (field (now (word .entry)) x) r (now (out .exit)) ⌝ }
@@ -172,6 +174,7 @@ pub(crate) fn put_anomalies(
     end
 }
 
+// Any line.
 fn put_text(out: &mut [u8], at: usize, text: LogLine) -> usize
     requires { ⌜ at + 55 ≤ length (now out) ⌝ }
     ensures { λ r. ⌜ Put (now (out .entry)) at (textOf text) r (now (out .exit)) ⌝ }

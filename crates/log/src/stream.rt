@@ -54,6 +54,7 @@ pub fn start() -> Log
     Log { count: 0, engine }
 }
 
+// What a call answers.
 fn answer(log: Log, used: usize, end: usize, status: Status) -> Step
     ensures { λ r. ⌜ r ≡ answerOf log used end status ⌝ }
 {
@@ -149,6 +150,7 @@ fn on_called(log: Log, done: Defined, letter: &[u8], used: usize, out: &mut [u8]
     sound(log, engine, used, end)
 }
 
+// What a record asks of the table is done, and answered.
 fn on_request(log: Log, q: Request, out: &mut [u8], at: usize) -> Step
     requires { ⌜ (log .count < 4294967295) × (at + 512 ≤ length (now out)) ⌝ }
     ensures { λ r. ⌜ Does (now (out .entry)) at (requestStep log q) r (now (out .exit)) ⌝ }
@@ -170,6 +172,7 @@ fn on_request(log: Log, q: Request, out: &mut [u8], at: usize) -> Step
     }
 }
 
+// Whether the next record may follow.
 fn goes_on(status: Status) -> bool
     ensures { λ r. ⌜ r ≡ goesOn status ⌝ }
 {

@@ -1,0 +1,54 @@
+-- What a host can read off an answer: the verdict, the Rust's own answer, and what a maker answered. Assumes nothing.
+use mathlib.Core.Path.{_≡_, refl, sym, ap, _∙_}
+use mathlib.Core.Bool.{cond}
+use lib.Dec.{ltb, eqb}
+use Rattle.detector.specs.declared.EwmaDetector.{EwmaDetector}
+use Rattle.detector.specs.declared.Made.{Made}
+use Rattle.detector.specs.declared.Made.the-variants as made
+use Rattle.detector.specs.declared.Verdict.{Verdict}
+use Rattle.detector.specs.declared.Verdict.the-variants.{Ignored, First, Warming, Scored}
+use Rattle.detector.specs.Answers.{Score, noScore, score, madeMeans, verdictMeans}
+use Rattle.host.specs.declared.MadeDetector.{MadeDetector}
+use Rattle.host.specs.declared.SampleAnswer.{SampleAnswer}
+use Rattle.host.specs.Answers.{answerOf, handed}
+
+-- ---- an answer tells the verdicts apart
+
+-- the verdict that an answer stands for
+abbrev pub verdictIn : SampleAnswer → Verdict
+verdictIn a =
+    cond (eqb (a .kind) 0) Ignored
+    (cond (eqb (a .kind) 1) First
+    (cond (eqb (a .kind) 2) Warming
+    (Scored (record { «z_score» = a .«z_score»; «is_anomalous» = a .«is_anomalous» }))))
+
+pub verdict-read-back : (v : Verdict) → verdictIn (answerOf v) ≡ v
+verdict-read-back Ignored = refl
+verdict-read-back First = refl
+verdict-read-back Warming = refl
+verdict-read-back (Scored s) = refl
+
+pub answer-settled : (a b : Verdict) → answerOf a ≡ answerOf b → a ≡ b
+answer-settled a b e = sym (verdict-read-back a) ∙ ap verdictIn e ∙ verdict-read-back b
+
+-- the Rust's answer: below kind 2 it gives no score, from there on the score and the flag that stand in the answer
+abbrev pub scoreIn : SampleAnswer → Score
+scoreIn a = cond (ltb (a .kind) 2) noScore (score (a .«z_score») (a .«is_anomalous»))
+
+pub score-read-back : (v : Verdict) → scoreIn (answerOf v) ≡ verdictMeans v
+score-read-back Ignored = refl
+score-read-back First = refl
+score-read-back Warming = refl
+score-read-back (Scored s) = refl
+
+-- ---- a maker's answer tells a detector from a refusal
+
+abbrev pub madeIn : MadeDetector → Made
+madeIn m = cond (eqb (m .refusal) 0) (made.Detector (m .detector)) made.Refused
+
+pub made-read-back : (otherwise : EwmaDetector) (m : Made) → madeIn (handed otherwise (madeMeans m)) ≡ m
+made-read-back otherwise (made.Detector d) = refl
+made-read-back otherwise made.Refused = refl
+
+pub handed-settled : (otherwise : EwmaDetector) (a b : Made) → handed otherwise (madeMeans a) ≡ handed otherwise (madeMeans b) → a ≡ b
+handed-settled otherwise a b e = sym (made-read-back otherwise a) ∙ ap madeIn e ∙ made-read-back otherwise b

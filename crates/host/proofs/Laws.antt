@@ -1,13 +1,15 @@
--- What a host can read off an answer: the verdict, the Rust's own answer, and what a maker answered. Assumes nothing.
+-- What a host can read off an answer: the verdict, the Rust's own score, and what `new`, `with_options` and `set_freeze_duration` answered. Assumes nothing.
 use mathlib.Core.Path.{_≡_, refl, sym, ap, _∙_}
 use mathlib.Core.Bool.{cond}
 use lib.Dec.{ltb, eqb}
 use Rattle.detector.specs.declared.EwmaDetector.{EwmaDetector}
 use Rattle.detector.specs.declared.Made.{Made}
 use Rattle.detector.specs.declared.Made.the-variants as made
+use Rattle.detector.specs.declared.Reset.{Reset}
+use Rattle.detector.specs.declared.Reset.the-variants as reset
 use Rattle.detector.specs.declared.Verdict.{Verdict}
 use Rattle.detector.specs.declared.Verdict.the-variants.{Ignored, First, Warming, Scored}
-use Rattle.detector.specs.Answers.{Score, noScore, score, madeMeans, verdictMeans}
+use Rattle.detector.specs.Answers.{Score, noScore, score, madeMeans, resetMeans, verdictMeans}
 use Rattle.host.specs.declared.MadeDetector.{MadeDetector}
 use Rattle.host.specs.declared.SampleAnswer.{SampleAnswer}
 use Rattle.host.specs.Answers.{answerOf, handed}
@@ -41,14 +43,25 @@ score-read-back First = refl
 score-read-back Warming = refl
 score-read-back (Scored s) = refl
 
--- ---- a maker's answer tells a detector from a refusal
+-- ---- refusal 0 stands beside a detector with the settings asked for and nowhere else, so an answer tells all answers apart
 
 abbrev pub madeIn : MadeDetector → Made
 madeIn m = cond (eqb (m .refusal) 0) (made.Detector (m .detector)) made.Refused
 
-pub made-read-back : (otherwise : EwmaDetector) (m : Made) → madeIn (handed otherwise (madeMeans m)) ≡ m
-made-read-back otherwise (made.Detector d) = refl
-made-read-back otherwise made.Refused = refl
+abbrev pub resetIn : MadeDetector → Reset
+resetIn m = cond (eqb (m .refusal) 0) (reset.Detector (m .detector)) reset.Refused
 
-pub handed-settled : (otherwise : EwmaDetector) (a b : Made) → handed otherwise (madeMeans a) ≡ handed otherwise (madeMeans b) → a ≡ b
-handed-settled otherwise a b e = sym (made-read-back otherwise a) ∙ ap madeIn e ∙ made-read-back otherwise b
+module _ (otherwise : EwmaDetector) where
+  pub made-read-back : (m : Made) → madeIn (handed otherwise (madeMeans m)) ≡ m
+  made-read-back (made.Detector d) = refl
+  made-read-back made.Refused = refl
+
+  pub reset-read-back : (m : Reset) → resetIn (handed otherwise (resetMeans m)) ≡ m
+  reset-read-back (reset.Detector d) = refl
+  reset-read-back reset.Refused = refl
+
+  pub handed-made-settled : (a b : Made) → handed otherwise (madeMeans a) ≡ handed otherwise (madeMeans b) → a ≡ b
+  handed-made-settled a b e = sym (made-read-back a) ∙ ap madeIn e ∙ made-read-back b
+
+  pub handed-reset-settled : (a b : Reset) → handed otherwise (resetMeans a) ≡ handed otherwise (resetMeans b) → a ≡ b
+  handed-reset-settled a b e = sym (reset-read-back a) ∙ ap resetIn e ∙ reset-read-back b

@@ -2,10 +2,11 @@
 // An enum cannot cross that border, so each answer is a struct of numbers.
 ghost use mathlib.Core.Path.{_≡_};
 ghost use Rattle.detector.specs.Answers.{madeMeans, resetMeans};
-ghost use Rattle.detector.specs.Ewma.{idle, madeOf, updated};
+ghost use Rattle.detector.specs.Ewma.{idle, madeOf, updated, resetOf, recalibrated};
 ghost use Rattle.host.specs.Answers.{answerOf, answeredOf, handed};
 use detector::EwmaDetector;
 use detector::Made;
+use detector::Reset;
 use detector::Verdict;
 
 // What a sample was: kind 0 ignored, 1 first sample, 2 warming, 3 scored; a score of +0 and no flag where there is none.
@@ -16,7 +17,7 @@ pub struct SampleAnswer {
     pub is_anomalous: bool,
 }
 
-// A detector beside refusal 0, or a refusal's number beside the detector that stands where none was made.
+// A detector with the settings asked for beside 0, or a refusal's number beside the detector that stands there otherwise.
 #[repr(C)]
 pub struct MadeDetector {
     pub refusal: u32,
@@ -87,6 +88,22 @@ fn handed_over(made: Made) -> MadeDetector
     }
 }
 
+// A detector with the new freeze duration, or as it was beside the refusal.
+fn with_duration(d: EwmaDetector, duration: u32) -> MadeDetector
+    ensures { λ r. ⌜ r ≡ handed d (resetOf d duration) ⌝ }
+{
+    match d.set_freeze_duration(duration) {
+        Reset::Detector(next) => MadeDetector {
+            refusal: 0,
+            detector: next,
+        },
+        Reset::Refused => MadeDetector {
+            refusal: 8,
+            detector: d,
+        },
+    }
+}
+
 // `EwmaDetector::new` for a host.
 #[no_mangle]
 pub extern "C" fn detector_new(alpha: f32, z_threshold: f32) -> MadeDetector
@@ -116,4 +133,23 @@ pub extern "C" fn detector_update(detector: &mut EwmaDetector, value: f32) -> Sa
     let done = step(*detector, value);
     *detector = done.detector;
     done.answer
+}
+
+// `set_freeze_duration` for a host: the lent detector gets the new duration, or stays as it was beside refusal 8.
+#[no_mangle]
+pub extern "C" fn detector_set_freeze_duration(detector: &mut EwmaDetector, duration: u32) -> u32
+    ensures { λ r. ⌜ (now (detector .exit) ≡ handed (now (detector .entry)) (resetOf (now (detector .entry)) duration) .detector)
+        × (r ≡ handed (now (detector .entry)) (resetOf (now (detector .entry)) duration) .refusal) ⌝ }
+{
+    let done = with_duration(*detector, duration);
+    *detector = done.detector;
+    done.refusal
+}
+
+// `recalibrate` for a host: the lent detector is calibrated in place.
+#[no_mangle]
+pub extern "C" fn detector_recalibrate(detector: &mut EwmaDetector, baseline: f32)
+    ensures { λ r. ⌜ now (detector .exit) ≡ recalibrated (now (detector .entry)) baseline ⌝ }
+{
+    *detector = EwmaDetector::recalibrate(*detector, baseline);
 }

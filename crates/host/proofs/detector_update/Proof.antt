@@ -1,6 +1,6 @@
 -- `host::detector_update` meets its contract: a walk of its MIR, by hand. The borrow is opened, the struct behind it is copied and passed to `step`, of which all that is known is its contract,
 -- the new detector is stored over the old one, and the borrow is closed at it. The answer is the result. Assumes nothing.
-use mathlib.Core.Path.{_≡_, refl, sym, ap}
+use mathlib.Core.Path.{_≡_, refl, ap}
 use Prim.Native.Nat.{ℕ}
 use mathlib.Core.Bool.{true}
 use mathlib.Core.List.{[], _∷_, List}

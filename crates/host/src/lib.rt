@@ -63,11 +63,11 @@ fn step(d: EwmaDetector, value: f32) -> Answered
     ensures { λ r. ⌜ r ≡ answeredOf (updated d value) ⌝ }
 {
     let done = d.update(value);
-    let next = done.detector;
+    let after = done.detector;
     let verdict = done.verdict;
     let answer = answer_of(verdict);
     Answered {
-        detector: next,
+        detector: after,
         answer,
     }
 }

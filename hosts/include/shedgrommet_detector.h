@@ -9,7 +9,8 @@
  * All other bytes may be anything: the promises hold for every detector, one that no call makes included.
  *
  * The library keeps no pointer, has no global state, allocates nothing and calls nothing outside itself.
- * So distinct detectors may be moved by distinct threads, and a detector may be copied, stored and read between calls. */
+ * So distinct detectors may be moved by distinct threads, and a detector may be copied, stored and read between calls.
+ * All NaNs count as one: which NaN's bits stand in a field is not promised. A score is never a NaN. */
 #ifndef SHEDGROMMET_DETECTOR_H
 #define SHEDGROMMET_DETECTOR_H
 

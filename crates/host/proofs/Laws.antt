@@ -1,7 +1,9 @@
 -- What a host can read off an answer: the verdict, the Rust's own score, and what `new`, `with_options` and `set_freeze_duration` answered. Assumes nothing.
 use mathlib.Core.Path.{_≡_, refl, sym, ap, _∙_}
-use mathlib.Core.Bool.{cond}
+use mathlib.Core.Bool.{true, cond}
 use lib.Dec.{ltb, eqb}
+use lib.Ieee.{Float}
+use lib.Ieee.Scale.{finite}
 use Rattle.detector.specs.declared.EwmaDetector.{EwmaDetector}
 use Rattle.detector.specs.declared.Made.{Made}
 use Rattle.detector.specs.declared.Made.the-variants as made
@@ -10,6 +12,8 @@ use Rattle.detector.specs.declared.Reset.the-variants as reset
 use Rattle.detector.specs.declared.Verdict.{Verdict}
 use Rattle.detector.specs.declared.Verdict.the-variants.{Ignored, First, Warming, Scored}
 use Rattle.detector.specs.Answers.{Score, noScore, score, madeMeans, resetMeans, verdictMeans}
+use Rattle.detector.specs.Ewma.{updated}
+use Rattle.detector.proofs.Finite.{zero-finite, scored-finite}
 use Rattle.host.specs.declared.MadeDetector.{MadeDetector}
 use Rattle.host.specs.declared.SampleAnswer.{SampleAnswer}
 use Rattle.host.specs.Answers.{answerOf, handed}
@@ -42,6 +46,16 @@ score-read-back Ignored = refl
 score-read-back First = refl
 score-read-back Warming = refl
 score-read-back (Scored s) = refl
+
+-- a score is a finite number
+pub score-is-finite : (d : EwmaDetector) (value : Float) → finite (answerOf (updated d value .verdict) .«z_score») ≡ true
+score-is-finite d value = go (updated d value .verdict) refl
+  where
+    go : (v : Verdict) → updated d value .verdict ≡ v → finite (answerOf v .«z_score») ≡ true
+    go Ignored e = zero-finite
+    go First e = zero-finite
+    go Warming e = zero-finite
+    go (Scored s) e = scored-finite d value s e
 
 -- ---- refusal 0 stands beside a detector with the settings asked for and nowhere else, so an answer tells all answers apart
 

@@ -18,6 +18,7 @@ answerOf First = record { kind = 1; «z_score» = zero32; «is_anomalous» = fal
 answerOf Warming = record { kind = 2; «z_score» = zero32; «is_anomalous» = false }
 answerOf (Scored s) = record { kind = 3; «z_score» = s .«z_score»; «is_anomalous» = s .«is_anomalous» }
 
+-- The detector after a sample, and what the host is told of the sample.
 abbrev pub answeredOf : Updated → Answered
 answeredOf u = record { detector = u .detector; answer = answerOf (u .verdict) }
 

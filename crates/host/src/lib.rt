@@ -1,7 +1,7 @@
 // What a host in C or Rust links, to make detectors that it keeps itself and to move them in place; hosts/include/shedgrommet_detector.h says it in C.
 // An enum cannot cross that border, so each answer is a struct of numbers.
 ghost use mathlib.Core.Path.{_≡_};
-ghost use Rattle.detector.specs.Answers.{madeMeans, resetMeans};
+ghost use Rattle.detector.specs.Answers.{madeMeans};
 ghost use Rattle.detector.specs.Ewma.{idle, madeOf, updated, resetOf, recalibrated};
 ghost use Rattle.host.specs.Answers.{answerOf, answeredOf, handed};
 use detector::EwmaDetector;
@@ -149,7 +149,7 @@ pub extern "C" fn detector_set_freeze_duration(detector: &mut EwmaDetector, dura
 // `recalibrate` for a host: the lent detector is calibrated in place.
 #[no_mangle]
 pub extern "C" fn detector_recalibrate(detector: &mut EwmaDetector, baseline: f32)
-    ensures { λ r. ⌜ now (detector .exit) ≡ recalibrated (now (detector .entry)) baseline ⌝ }
+    ensures { λ _. ⌜ now (detector .exit) ≡ recalibrated (now (detector .entry)) baseline ⌝ }
 {
     *detector = EwmaDetector::recalibrate(*detector, baseline);
 }

@@ -291,6 +291,23 @@ fn ids(d: &mut Dice) -> Vec<u64> {
     (0..n).map(|_| if d.one_in(4) { d.of(&[0, 1, 0x7FF, 0x100]) } else { d.below(0x800) }).collect()
 }
 
+/// Table calls and frames on one engine that is there; the table is shown after each call, or at the end alone.
+pub fn one_engine(out: &mut String, d: &mut Dice, calls: usize, often: bool) {
+    out.push_str("e 3F000000 40000000\n");
+    let ids = ids(d);
+    for i in 0..calls {
+        if i < 12 || d.one_in(12) {
+            table_call(out, d, &ids, false);
+        } else {
+            frame(out, d, &ids);
+        }
+        if often {
+            out.push_str("s\n");
+        }
+    }
+    out.push_str("s\n");
+}
+
 /// Table calls and frames on one engine; the whole table is shown once in so many calls.
 pub fn engines(out: &mut String, d: &mut Dice, calls: usize, shows: u64) {
     let mut left = calls as i64;

@@ -86,6 +86,47 @@ fn smallest<T: Clone>(items: Vec<T>, differs: impl Fn(&[T]) -> bool) -> Vec<T> {
     }
 }
 
+/// The key of a frame: its effective identifier and frame type.
+fn key(call: &str) -> Option<(u64, bool)> {
+    let fields: Vec<&str> = call.split(' ').collect();
+    let id = u64::from_str_radix(fields.get(1)?, 16).ok()?;
+    match fields[0] {
+        "f" if fields[2] == "1" => Some((id % (1 << 29), true)),
+        "f" => Some((id % (1 << 11), false)),
+        "g" => Some((id, false)),
+        _ => None,
+    }
+}
+
+/// What a run shows of a key: the answers to its frames, and its rows where the table is shown.
+fn seen_of(k: (u64, bool), calls: &[&str], output: &str) -> Vec<String> {
+    let mut lines = output.lines();
+    let mut seen = Vec::new();
+    for call in calls {
+        let answer = lines.next().unwrap_or("").to_string();
+        match &call[..1] {
+            "f" | "g" => {
+                let outcomes = lines.next().unwrap_or("").to_string();
+                if key(call) == Some(k) {
+                    seen.push(answer);
+                    seen.push(outcomes);
+                }
+            }
+            "s" => {
+                let count = usize::from_str_radix(&answer[2..4], 16).expect("a count");
+                for row in lines.by_ref().take(count) {
+                    let fields: Vec<&str> = row.split(' ').collect();
+                    if u64::from_str_radix(fields[2], 16) == Ok(k.0) && (fields[3] == "1") == k.1 {
+                        seen.push(row.to_string());
+                    }
+                }
+            }
+            _ => {}
+        }
+    }
+    seen
+}
+
 struct Bench {
     replay: PathBuf,
     framelog: PathBuf,
@@ -93,6 +134,7 @@ struct Bench {
     calls: u64,
     records: u64,
     logs: u64,
+    isolated: u64,
 }
 
 impl Bench {
@@ -124,6 +166,25 @@ impl Bench {
         exit(1);
     }
 
+    /// Demand 3 as a run: for each key of a sequence of calls, the same calls without the frames of other keys.
+    fn isolation(&mut self, script: &str) {
+        let calls: Vec<&str> = script.lines().collect();
+        let whole = String::from_utf8_lossy(&output(&self.replay, script.as_bytes(), &self.scratch)).into_owned();
+        let mut keys: Vec<(u64, bool)> = calls.iter().filter_map(|c| key(c)).collect();
+        keys.sort();
+        keys.dedup();
+        for k in keys {
+            let kept: Vec<&str> = calls.iter().copied().filter(|c| key(c).is_none_or(|other| other == k)).collect();
+            let fewer = kept.join("\n") + "\n";
+            let alone = String::from_utf8_lossy(&output(&self.replay, fewer.as_bytes(), &self.scratch)).into_owned();
+            self.isolated += 1;
+            if seen_of(k, &calls, &whole) != seen_of(k, &kept, &alone) {
+                println!("NOT ISOLATED: identifier {:X}, extended {}, on this script:\n{script}", k.0, k.1);
+                exit(1);
+            }
+        }
+    }
+
     /// The cases that are the same in every run.
     fn fixed(&mut self) {
         let mut d = g::Dice::new(0);
@@ -152,7 +213,11 @@ impl Bench {
         g::roots(&mut out, &mut d, 1_000);
         g::detectors(&mut out, &mut d, 20_000);
         g::engines(&mut out, &mut d, 20_000, 12);
+        g::engines(&mut out, &mut d, 400, 1);
         self.script(&out);
+        let mut one = String::new();
+        g::one_engine(&mut one, &mut d, 300, false);
+        self.isolation(&one);
         let long = g::log(&mut d, 5_000);
         self.log(&long, 5_000);
         for _ in 0..40 {
@@ -191,7 +256,10 @@ impl Bench {
     }
 
     fn say(&self, since: Instant) {
-        println!("compared {} calls, {} logs of {} records, no difference ({} s)", self.calls, self.logs, self.records, since.elapsed().as_secs());
+        println!(
+            "compared {} calls, {} logs of {} records, {} keys alone: no difference ({} s)",
+            self.calls, self.logs, self.records, self.isolated, since.elapsed().as_secs()
+        );
         let _ = std::io::stdout().flush();
     }
 }
@@ -200,7 +268,7 @@ fn main() {
     let asked = asked();
     let bin = Path::new(env!("CARGO_MANIFEST_DIR")).join("../../target/bin");
     let scratch = std::env::temp_dir().join(format!("compare-{}", std::process::id()));
-    let mut b = Bench { replay: bin.join("replay"), framelog: bin.join("framelog"), scratch, calls: 0, records: 0, logs: 0 };
+    let mut b = Bench { replay: bin.join("replay"), framelog: bin.join("framelog"), scratch, calls: 0, records: 0, logs: 0, isolated: 0 };
     let since = Instant::now();
     let mut said = since;
     if let Some(n) = asked.logs {

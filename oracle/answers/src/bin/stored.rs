@@ -15,6 +15,7 @@ fn main() {
     g::every_refusal(&mut out, false);
     g::last_slots(&mut out);
     g::crowds(&mut out, &mut d);
-    g::engines(&mut out, &mut d, 700, 60);
+    g::engines(&mut out, &mut d, 500, 60);
+    g::one_engine(&mut out, &mut d, 30, true);
     print!("{out}");
 }

@@ -1,0 +1,72 @@
+-- `timed::timed_update` is safe and ends.
+-- Assumes nothing.
+use borrow.Author.Needs.{needs}
+use Prim.Native.Nat.{_≤_, _-_}
+use lib.ListN.{length}
+use Rattle.timed.proofs.timed_update.Statement.{statement}
+use Rattle.timed.proofs.timed_update.Tie as tie
+
+abbrev Inv-loop : tie.InvT-loop
+Inv-loop alpha threshold values detector₀ sum₀ i₀ detector sum i = i ≤ length values
+
+abbrev μ-loop : tie.MeasureT-loop
+μ-loop alpha threshold values detector₀ sum₀ i₀ detector sum i = length values - i
+
+new-requires : tie.Need-new-requires Inv-loop μ-loop
+new-requires c κs = search needs
+
+enum-known-made : tie.Need-enum-known-made Inv-loop μ-loop
+enum-known-made c = search needs
+
+enum-told : tie.Need-enum-told Inv-loop μ-loop
+enum-told c = search needs
+
+returns : tie.Need-returns Inv-loop μ-loop
+returns c = search needs
+
+loop-holds : tie.Need-loop-holds Inv-loop μ-loop
+loop-holds c = search needs
+
+mul-update : tie.Need-mul-update Inv-loop μ-loop
+mul-update c = search needs
+
+shared-slice-read-update : tie.Need-shared-slice-read-update Inv-loop μ-loop
+shared-slice-read-update c = search needs
+
+update-requires : tie.Need-update-requires Inv-loop μ-loop
+update-requires c κs = search needs
+
+mixed-verdict-requires : tie.Need-mixed-verdict-requires Inv-loop μ-loop
+mixed-verdict-requires c κs = search needs
+
+add-i : tie.Need-add-i Inv-loop μ-loop
+add-i c = search needs
+
+loop-less : tie.Need-loop-less Inv-loop μ-loop
+loop-less c = search needs
+
+loop-again : tie.Need-loop-again Inv-loop μ-loop
+loop-again c = search needs
+
+returns-2 : tie.Need-returns-2 Inv-loop μ-loop
+returns-2 c = search needs
+
+pub timed-update-spec : {M : Type 1} → statement M
+timed-update-spec =
+    tie.close
+    (tie.spec
+    Inv-loop
+    μ-loop
+    new-requires
+    enum-known-made
+    enum-told
+    returns
+    loop-holds
+    mul-update
+    shared-slice-read-update
+    update-requires
+    mixed-verdict-requires
+    add-i
+    loop-less
+    loop-again
+    returns-2)

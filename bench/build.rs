@@ -2,6 +2,8 @@
 fn main() {
     let dir = std::path::Path::new(env!("CARGO_MANIFEST_DIR")).join("../target/staticlib");
     println!("cargo:rustc-link-search=native={}", dir.display());
-    println!("cargo:rustc-link-lib=static=timed");
-    println!("cargo:rerun-if-changed={}", dir.join("libtimed.a").display());
+    for name in ["timed", "timed_frames"] {
+        println!("cargo:rustc-link-lib=static={name}");
+        println!("cargo:rerun-if-changed={}", dir.join(format!("lib{name}.a")).display());
+    }
 }

@@ -97,10 +97,7 @@ fn nearest(name: &str, number: fn(&mut Random) -> u64) -> Row {
     )
 }
 
-/// A loop of samples through detectors.
-type Updates = fn(f32, f32, &[f32]) -> u64;
-
-fn update(name: &str, ours: Updates, rust: Updates) -> Row {
+fn update(name: &str, turns: usize) -> Row {
     let mut r = Random::new(0x5EED_0006);
     let sample = |_| if r.once_in(100) { 500.0 } else { 20.0 + r.below(1000) as f32 / 100.0 };
     let values: Vec<f32> = (0..CALLS).map(sample).collect();
@@ -109,8 +106,8 @@ fn update(name: &str, ours: Updates, rust: Updates) -> Row {
         name,
         CALLS,
         Some(1.2),
-        Box::new(move || clock::of(|| ours(ALPHA, THRESHOLD, &values))),
-        Box::new(move || clock::of(|| rust(ALPHA, THRESHOLD, &same))),
+        Box::new(move || clock::of(|| proved::update(ALPHA, THRESHOLD, turns, &values))),
+        Box::new(move || clock::of(|| unchanged::update(ALPHA, THRESHOLD, turns, &same))),
     )
 }
 
@@ -179,8 +176,8 @@ fn main() {
         nearest("whole number to f32, below 2^12", |r| r.below(1 << 12)),
         nearest("whole number to f32, 25 to 64 bits", |r| (r.next() | 1 << 63) >> r.below(40)),
         nearest("whole number to f32, 1 to 64 bits", |r| (r.next() | 1 << 63) >> r.below(64)),
-        update("update, one detector", proved::update, unchanged::update),
-        update("update, 64 detectors in turn", proved::update_turns, unchanged::update_turns),
+        update("update, one detector", 1),
+        update("update, 64 detectors in turn", 64),
         frames("frame, the mix", Some(2.5), Traffic::mix(64, CALLS)),
         frames("frame, nothing matches", None, Traffic::nothing(CALLS)),
         frames("frame, eight match", None, Traffic::eight(CALLS)),

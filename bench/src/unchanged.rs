@@ -1,4 +1,4 @@
-//! The loops of crates/timed over the unchanged Rust.
+//! The loops of crates/timed and crates/timed_frames over the unchanged Rust.
 
 use crate::inputs::Place;
 use vs_anomaly::{AnomalyScore, EwmaDetector};
@@ -47,16 +47,13 @@ fn mixed_score(sum: u64, score: Option<AnomalyScore>) -> u64 {
     }
 }
 
-pub fn update(alpha: f32, threshold: f32, values: &[f32]) -> u64 {
-    let mut detector = EwmaDetector::new(alpha, threshold).expect("good settings");
-    values.iter().fold(0, |sum, &x| mixed_score(sum, detector.update(x)))
-}
-
-pub fn update_turns(alpha: f32, threshold: f32, values: &[f32]) -> u64 {
+pub fn update(alpha: f32, threshold: f32, turns: usize, values: &[f32]) -> u64 {
     let mut detectors = [EwmaDetector::new(alpha, threshold).expect("good settings"); 64];
-    let mut sum = 0;
-    for (i, &x) in values.iter().enumerate() {
-        sum = mixed_score(sum, detectors[i % 64].update(x));
+    let n = turns.min(64);
+    let (mut sum, mut at) = (0, 0);
+    for &x in values {
+        sum = mixed_score(sum, detectors[at].update(x));
+        at = if at + 1 < n { at + 1 } else { 0 };
     }
     sum
 }

@@ -1,9 +1,9 @@
--- `timed::mixed_anomalies` is safe and ends.
+-- `timed_frames::mixed_anomalies` is safe and ends.
 -- Assumes nothing.
 use borrow.Author.Needs.{needs}
 use Prim.Native.Nat.{_≤_, _-_}
-use Rattle.timed.proofs.mixed_anomalies.Statement.{statement}
-use Rattle.timed.proofs.mixed_anomalies.Tie as tie
+use Rattle.timed_frames.proofs.mixed_anomalies.Statement.{statement}
+use Rattle.timed_frames.proofs.mixed_anomalies.Tie as tie
 
 abbrev Inv-loop : tie.InvT-loop
 Inv-loop sum count listed all₀ i₀ all i = i ≤ 8

@@ -1,9 +1,9 @@
--- `timed::engine_of` is safe and ends.
+-- `timed_frames::engine_of` is safe and ends.
 -- Assumes nothing.
 use borrow.Author.Needs.{needs}
 use Prim.Native.Nat.{_≤_, _-_}
-use Rattle.timed.proofs.engine_of.Statement.{statement}
-use Rattle.timed.proofs.engine_of.Tie as tie
+use Rattle.timed_frames.proofs.engine_of.Statement.{statement}
+use Rattle.timed_frames.proofs.engine_of.Tie as tie
 
 abbrev Inv-loop : tie.InvT-loop
 Inv-loop alpha threshold definitions engine₀ n i₀ engine i = i ≤ n

@@ -1,10 +1,10 @@
--- `timed::timed_frames` is safe and ends.
+-- `timed_frames::timed_frames` is safe and ends.
 -- Assumes nothing.
 use borrow.Author.Needs.{needs}
 use native.Mathlib.Omega.{arith}
 use Prim.Native.Nat.{_≤_, _<_, _-_}
-use Rattle.timed.proofs.timed_frames.Statement.{statement}
-use Rattle.timed.proofs.timed_frames.Tie as tie
+use Rattle.timed_frames.proofs.timed_frames.Statement.{statement}
+use Rattle.timed_frames.proofs.timed_frames.Tie as tie
 
 abbrev Inv-loop : tie.InvT-loop
 Inv-loop alpha threshold definitions frames engine₀ n sum₀ i₀ engine sum i = (i ≤ n) × (n < 18446744073709551616)

@@ -165,11 +165,9 @@ impl Programs {
     }
 }
 
-fn main() {
-    let args: Vec<String> = std::env::args().collect();
-    let rounds: usize = args[1].parse().expect("the number of rounds");
-    let programs = Programs { ours: (&args[2]).into(), rust: (&args[3]).into(), logs: (&args[4]).into() };
-    let mut rows = vec![
+/// Each call by itself, and the log program.
+fn calls(programs: &Programs) -> Vec<Row> {
+    vec![
         raw("raw number, 8 or 16 bits, whole bytes", Some(1.0), Place::aligned),
         raw("raw number, 10 or 12 bits, odd", Some(0.4), Place::odd),
         raw("raw number, 1 to 64 bits, anywhere", Some(0.4), Place::any),
@@ -182,10 +180,15 @@ fn main() {
         frames("frame, nothing matches", None, Traffic::nothing(CALLS)),
         frames("frame, eight match", None, Traffic::eight(CALLS)),
         tables("definition into a table of up to 64"),
-        programs.log("log, the mix, 1,000,000 frames", Some(2.0), Traffic::mix(64, 1_000_000)),
-    ];
+        programs.log("log, the mix, 1000000 frames", Some(2.0), Traffic::mix(64, 1_000_000)),
+    ]
+}
+
+/// The mix by the number of definitions and of frames.
+fn growth(programs: &Programs) -> Vec<Row> {
+    let mut rows = Vec::new();
     for count in [1, 8, 64] {
-        for n in [1 << 10, 1 << 14, 1 << 18] {
+        for n in [1_000, 10_000, 100_000] {
             rows.push(frames(&format!("frame, {count} defined, {n} frames"), None, Traffic::mix(count, n)));
         }
     }
@@ -194,14 +197,31 @@ fn main() {
             rows.push(programs.log(&format!("log, {count} defined, {n} frames"), None, Traffic::mix(count, n)));
         }
     }
-    rows.iter_mut().for_each(Row::round);
-    rows.iter_mut().for_each(|row| row.took.clear());
-    for k in 1..=rounds {
-        eprint!("\rround {k} of {rounds} ");
-        rows.iter_mut().for_each(Row::round);
-    }
-    eprintln!();
-    println!("| {rounds} rounds in turn | ours, ns | Rust, ns | ratio | middle half of the rounds | of the least times | aim |");
+    rows
+}
+
+fn print(title: &str, rows: &[Row]) {
+    println!("| {title} | ours, ns | Rust, ns | ratio | middle half of the rounds | of the least times | aim |");
     println!("|---|---|---|---|---|---|---|");
     rows.iter().for_each(Row::print);
+    println!();
+}
+
+fn main() {
+    let args: Vec<String> = std::env::args().collect();
+    let rounds: usize = args[1].parse().expect("the number of rounds");
+    assert!(rounds > 0, "at least one round");
+    let programs = Programs { ours: (&args[2]).into(), rust: (&args[3]).into(), logs: (&args[4]).into() };
+    let (mut calls, mut growth) = (calls(&programs), growth(&programs));
+    // the first round only warms up
+    for k in 0..=rounds {
+        eprint!("\rround {k} of {rounds} ");
+        calls.iter_mut().chain(&mut growth).for_each(Row::round);
+        if k == 0 {
+            calls.iter_mut().chain(&mut growth).for_each(|row| row.took.clear());
+        }
+    }
+    eprintln!();
+    print(&format!("{rounds} rounds in turn, for a call"), &calls);
+    print("how it grows, for a frame", &growth);
 }

@@ -107,22 +107,20 @@ fn identifier(i: u64) -> (u32, bool) {
 
 impl Traffic {
     /// `count` definitions over three identifiers for each eight of them (24 for 64), half made of whole bytes, and half of
-    /// 10 or 12 bits; every eighth identifier has a multiplexor and two definitions with a condition. A fifth of the frames
-    /// match nothing, one of 32 has another length than 8, and one of 16 has values far from the others.
+    /// 10 or 12 bits; every eighth identifier has a multiplexor of two bits, and its other definitions a condition. A fifth of
+    /// the frames match nothing, one of 32 has another length than 8, and one of 16 has values far from the others.
     pub fn mix(count: u64, frames: usize) -> Traffic {
         let mut r = Random::new(0x5EED_0001);
         let ids = (3 * count).div_ceil(8);
         let mut definitions = Vec::new();
         for k in 0..count {
             let (id, extended) = identifier(k % ids);
-            let turn = k / ids;
-            let muxed = k % ids % 8 == 1;
             let place = if k % 2 == 0 { Place::aligned(&mut r) } else { Place::odd(&mut r) };
             let flags = extended as u8 | if r.below(5) < 2 { 4 } else { 0 };
-            match turn {
-                2 if muxed => definition(&mut definitions, id, flags | 8, place, 0),
-                0 | 1 if muxed => definition(&mut definitions, id, flags | 16, place, turn as u16),
-                _ => definition(&mut definitions, id, flags, place, 0),
+            match k / ids {
+                _ if k % ids % 8 != 1 => definition(&mut definitions, id, flags, place, 0),
+                0 => definition(&mut definitions, id, flags | 8, Place::at(false, 0, 2), 0),
+                turn => definition(&mut definitions, id, flags | 16, place, turn as u16),
             }
         }
         let mut out = Vec::with_capacity(16 * frames);

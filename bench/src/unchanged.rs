@@ -1,0 +1,113 @@
+//! The loops of crates/timed and crates/timed_frames over the unchanged Rust.
+
+use crate::inputs::Place;
+use vs_anomaly::{AnomalyScore, EwmaDetector};
+use vs_can_monitor::CanFrame;
+use vs_signal_ids::{extract_signal_raw, ByteOrder, SignalDefinition, SignalIdsEngine, SignalIdsResult};
+
+fn mixed(sum: u64, x: u64) -> u64 {
+    sum.rotate_left(1) ^ x
+}
+
+fn mixed_float(sum: u64, x: f32) -> u64 {
+    mixed(sum, if x.is_nan() { 0x7FC0_0000 } else { x.to_bits() } as u64)
+}
+
+fn order(motorola: bool) -> ByteOrder {
+    if motorola {
+        ByteOrder::BigEndian
+    } else {
+        ByteOrder::LittleEndian
+    }
+}
+
+/// The Rust takes a place as a definition; they are made before the clock is read.
+pub fn definition_at(p: &Place) -> SignalDefinition {
+    SignalDefinition { start_bit: p.start, bit_length: p.length, byte_order: order(p.motorola), ..Default::default() }
+}
+
+pub fn raw(data: &[u8], places: &[SignalDefinition]) -> u64 {
+    let n = (data.len() / 8).min(places.len());
+    let mut sum = 0;
+    for i in 0..n {
+        sum = mixed(sum, extract_signal_raw(&data[8 * i..8 * i + 8], 8, &places[i]).unwrap_or(1));
+    }
+    sum
+}
+
+pub fn nearest(numbers: &[u64]) -> u64 {
+    numbers.iter().fold(0, |sum, &x| mixed_float(sum, x as f32))
+}
+
+fn mixed_score(sum: u64, score: Option<AnomalyScore>) -> u64 {
+    match score {
+        None => mixed(sum, 1),
+        Some(s) if s.is_anomalous => mixed(mixed_float(sum, s.z_score), 2),
+        Some(s) => mixed_float(sum, s.z_score),
+    }
+}
+
+pub fn update(alpha: f32, threshold: f32, turns: usize, values: &[f32]) -> u64 {
+    let mut detectors = [EwmaDetector::new(alpha, threshold).expect("good settings"); 64];
+    let n = turns.min(64);
+    let (mut sum, mut at) = (0, 0);
+    for &x in values {
+        sum = mixed_score(sum, detectors[at].update(x));
+        at = if at + 1 < n { at + 1 } else { 0 };
+    }
+    sum
+}
+
+fn u16_at(s: &[u8], i: usize) -> u16 {
+    u16::from_le_bytes([s[i], s[i + 1]])
+}
+
+fn u32_at(s: &[u8], i: usize) -> u32 {
+    u32::from_le_bytes([s[i], s[i + 1], s[i + 2], s[i + 3]])
+}
+
+fn definition_of(s: &[u8]) -> SignalDefinition {
+    let flags = s[6];
+    SignalDefinition {
+        can_id: u32_at(s, 2),
+        is_extended: flags & 1 != 0,
+        start_bit: u16_at(s, 7),
+        bit_length: s[9],
+        byte_order: order(flags & 2 != 0),
+        scale: f32::from_bits(u32_at(s, 10)),
+        offset: f32::from_bits(u32_at(s, 14)),
+        name_hash: u32_at(s, 18),
+        signed: flags & 4 != 0,
+        is_multiplexor: flags & 8 != 0,
+        multiplexor_value: if flags & 16 != 0 { Some(u16_at(s, 22)) } else { None },
+    }
+}
+
+fn engine_of(alpha: f32, threshold: f32, definitions: &[u8]) -> SignalIdsEngine {
+    let mut engine = SignalIdsEngine::new(alpha, threshold).expect("good settings");
+    for record in definitions.chunks_exact(24) {
+        engine.define_signal(definition_of(record)).expect("a good definition");
+    }
+    engine
+}
+
+fn frame_of(s: &[u8]) -> CanFrame {
+    let data = [s[8], s[9], s[10], s[11], s[12], s[13], s[14], s[15]];
+    CanFrame { id: u32_at(s, 4), is_extended: s[2] == 1, length: s[3], data }
+}
+
+fn mixed_anomalies(sum: u64, result: &SignalIdsResult) -> u64 {
+    result.anomalies[..result.anomaly_count as usize].iter().fold(sum, |sum, a| {
+        mixed_float(mixed_float(mixed(sum, a.signal_index as u64), a.z_score), a.physical_value)
+    })
+}
+
+pub fn frames(alpha: f32, threshold: f32, definitions: &[u8], frames: &[u8]) -> u64 {
+    let mut engine = engine_of(alpha, threshold, definitions);
+    let mut sum = 0;
+    for record in frames.chunks_exact(16) {
+        let result = engine.process_frame(&frame_of(record));
+        sum = mixed_anomalies(sum, &result);
+    }
+    sum
+}

@@ -1,6 +1,6 @@
 //! Links the proved loops, which bench/run has built before.
 fn main() {
-    let dir = std::path::Path::new(env!("CARGO_MANIFEST_DIR")).join("../target/staticlib");
+    let dir = std::path::Path::new(env!("CARGO_MANIFEST_DIR")).join("../target/bench/repo/target/staticlib");
     println!("cargo:rustc-link-search=native={}", dir.display());
     for name in ["timed", "timed_frames"] {
         println!("cargo:rustc-link-lib=static={name}");

@@ -1,4 +1,4 @@
-//! The proved loops of crates/timed and crates/timed_frames. None asks anything of its caller.
+//! The proved loops of bench/loops. None asks anything of its caller.
 
 mod exported {
     extern "C" {

@@ -1,4 +1,4 @@
-//! The loops of crates/timed and crates/timed_frames over the unchanged Rust.
+//! The loops of bench/loops over the unchanged Rust.
 
 use crate::inputs::Place;
 use vs_anomaly::{AnomalyScore, EwmaDetector};

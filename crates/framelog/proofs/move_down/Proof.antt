@@ -1,3 +1,5 @@
+-- `framelog::move_down` meets its contract.
+-- Assumes nothing.
 use lib.ListN.{length-set, length, take, drop}
 use mathlib.Core.Path.{_≡_, refl, _∙_, ap}
 use Prim.Native.Nat.{ℕ, _≤_, _-_}

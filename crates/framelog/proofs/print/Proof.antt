@@ -1,3 +1,5 @@
+-- `framelog::print` meets its contract.
+-- Assumes nothing.
 use native.Mathlib.Omega.{arith}
 use denote.Ref.{now}
 use Rattle.framelog.proofs.Down.{worked}

@@ -1,3 +1,5 @@
+-- `framelog::turn` meets its contract.
+-- Assumes nothing.
 use native.Mathlib.Omega.{arith}
 use Rattle.framelog.proofs.Down.{bytes-in}
 use borrow.Author.Needs.{needs}

@@ -1,3 +1,5 @@
+-- `framelog::work` meets its contract.
+-- Assumes nothing.
 use denote.Ref.{now}
 use mathlib.Core.Path.{sym}
 use Rattle.framelog.proofs.Down.{worked}

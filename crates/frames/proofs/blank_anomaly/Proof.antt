@@ -1,11 +1,10 @@
+-- `frames::blank_anomaly` meets its contract.
+-- Assumes nothing.
 use mathlib.Core.Path.{refl}
 use Rattle.frames.specs.Frames.{blankAnomaly}
 use Rattle.frames.proofs.blank_anomaly.Statement.{statement}
 use Rattle.frames.proofs.blank_anomaly.Tie as tie
-use Rattle.frames.proofs.blank_anomaly.Reads as reads
-use Rattle.frames.proofs.blank_anomaly.Lts as lts
 
--- src/lib.rt:237:1
 returns : tie.Need-returns
 unfolding blankAnomaly
 returns c = refl

@@ -1,21 +1,16 @@
+-- `frames::no_reports` meets its contract.
+-- Assumes nothing.
 use Rattle.frames.proofs.Answers.{blank-is}
 use borrow.Author.Needs.{needs}
 use Rattle.frames.proofs.no_reports.Statement.{statement}
 use Rattle.frames.proofs.no_reports.Tie as tie
-use Rattle.frames.proofs.no_reports.Reads as reads
-use Rattle.frames.proofs.no_reports.Lts as lts
-use Rattle.frames.proofs.blank_anomaly.Reads as blank-anomaly-reads
-use Rattle.frames.proofs.blank_report.Reads as blank-report-reads
 
--- src/lib.rt:251:9
 blank-anomaly-requires : tie.Need-blank-anomaly-requires
 blank-anomaly-requires c κs = search needs
 
--- src/lib.rt:252:9
 blank-report-requires : tie.Need-blank-report-requires
 blank-report-requires c κs = search needs
 
--- src/lib.rt:248:1
 returns : tie.Need-returns
 returns c = blank-is (c .before .blank-anomaly .result) (c .blank-report .result) (c .before .blank-anomaly .ensures) (c .blank-report .ensures)
 

@@ -1,3 +1,6 @@
+-- `frames::process` meets its contract. The first loop has looked for the multiplexor in the rows from `j` on (`Searching`), the second has moved the rows
+-- before `next` and reported them (`Moving`); each turn is a lemma of Search or Moves.
+-- Assumes nothing.
 use mathlib.Core.Path.{sym, ap, _∙_}
 use mathlib.Core.Bool.{Bool}
 use mathlib.Core.List.{List}
@@ -16,16 +19,6 @@ use Rattle.frames.proofs.Search.{Searching, search-begins, search-named
 use Rattle.frames.proofs.Moves.{Moving, moving-begins, room-for-report, other-id, other-type, moves-quiet, moves-listed, moving-ends}
 use Rattle.frames.proofs.process.Statement.{statement}
 use Rattle.frames.proofs.process.Tie as tie
-use Rattle.frames.proofs.process.Reads as reads
-use Rattle.frames.proofs.process.Lts as lts
-use Rattle.frames.proofs.count_equal.Reads as count-equal-reads
-use Rattle.frames.proofs.is_typed.Reads as is-typed-reads
-use Rattle.frames.proofs.no_reports.Reads as no-reports-reads
-use Rattle.frames.proofs.raised.Reads as raised-reads
-use Rattle.frames.proofs.report_of.Reads as report-of-reads
-use Rattle.frames.proofs.selected.Reads as selected-reads
-use Rattle.frames.proofs.stepped.Reads as stepped-reads
-use Rattle.table.proofs.clamp.Reads as clamp-reads
 
 abbrev visit : SignalIdsEngine → ℕ → ℕ → Bool → List ℕ → ℕ → Visit
 visit engine n id extended bytes size = record { engine = engine; n = n; id = id; extended = extended; bytes = bytes; size = size }
@@ -52,19 +45,15 @@ sound c =
       detectors-64 = simp length-map at (c .good .0 .1 .1 .1 .1 .0 .1 .0 .1);
     }
 
--- src/lib.rt:292:22
 no-reports-requires : tie.Need-no-reports-requires Inv-loop μ-loop Inv-loop2 μ-loop2
 no-reports-requires c κs = search needs
 
--- src/lib.rt:293:9
 clamp-requires : tie.Need-clamp-requires Inv-loop μ-loop Inv-loop2 μ-loop2
 clamp-requires c κs = search needs
 
--- src/lib.rt:294:9
 count-equal-requires : tie.Need-count-equal-requires Inv-loop μ-loop Inv-loop2 μ-loop2
 count-equal-requires c κs = omega (arith, c .before .before .before .clamp .ensures, sound (c .before .before .before .before .before .before) .ids-64)
 
--- src/lib.rt:298:5
 loop-holds : tie.Need-loop-holds Inv-loop μ-loop Inv-loop2 μ-loop2
 loop-holds c =
     let start = c .before .before .before .before .before .before .before in
@@ -72,39 +61,30 @@ loop-holds c =
     let v : Visit = visit (a .t1) (c .before .before .before .before .clamp .result) (a .id) (a .extended) (now (a .bytes)) (a .data-len) in
     search-begins v (sound start) (omega (arith, c .before .before .before .before .clamp .ensures)) (c .count-equal .ensures)
 
--- src/lib.rt:299:9
 sub-j : tie.Need-sub-j Inv-loop μ-loop Inv-loop2 μ-loop2
 sub-j c = omega (arith, c .loop-test .taken, c .before .loop .inv)
 
--- src/lib.rt:300:12
 mul-if1 : tie.Need-mul-if1 Inv-loop μ-loop Inv-loop2 μ-loop2
 mul-if1 c = omega (arith, c .loop-test .taken, c .before .loop .inv)
 
--- src/lib.rt:300:12
 element-copy-out-if1 : tie.Need-element-copy-out-if1 Inv-loop μ-loop Inv-loop2 μ-loop2
 element-copy-out-if1 c = omega (arith, c .loop-test .taken, c .before .loop .inv)
 
--- src/lib.rt:301:13
 sub-unseen : tie.Need-sub-unseen Inv-loop μ-loop Inv-loop2 μ-loop2
 sub-unseen c = omega (arith, c .before .before .loop-test .taken, c .before .before .before .loop .inv)
 
--- src/lib.rt:302:26
 mul-signal : tie.Need-mul-signal Inv-loop μ-loop Inv-loop2 μ-loop2
 mul-signal c = omega (arith, c .before .before .loop-test .taken, c .before .before .before .loop .inv)
 
--- src/lib.rt:302:26
 element-copy-out-signal : tie.Need-element-copy-out-signal Inv-loop μ-loop Inv-loop2 μ-loop2
 element-copy-out-signal c = omega (arith, c .before .before .loop-test .taken, c .before .before .before .loop .inv)
 
--- src/lib.rt:303:13
 selected-requires : tie.Need-selected-requires Inv-loop μ-loop Inv-loop2 μ-loop2
 selected-requires c κs = search needs
 
--- src/lib.rt:298:5
 loop-less : tie.Need-loop-less Inv-loop μ-loop Inv-loop2 μ-loop2
 loop-less c = omega (arith, c .before .before .before .before .loop-test .taken, c .before .before .before .before .before .loop .inv)
 
--- src/lib.rt:298:5
 loop-again : tie.Need-loop-again Inv-loop μ-loop Inv-loop2 μ-loop2
 loop-again c =
     let start = c .before .before .before .before .before .before .before .before .before .before .before .before .before in
@@ -112,11 +92,9 @@ loop-again c =
     let v : Visit = visit (a .t1) (c .before .before .before .before .before .before .before .before .before .before .clamp .result) (a .id) (a .extended) (now (a .bytes)) (a .data-len) in
     search-named v (sound start) (c .before .before .before .before .before .loop .inv) (omega (arith, c .before .before .before .before .loop-test .taken)) (eq-eqb _ _ (c .before .before .if1 .taken)) (c .selected .ensures)
 
--- src/lib.rt:298:5
 loop-less-2 : tie.Need-loop-less-2 Inv-loop μ-loop Inv-loop2 μ-loop2
 loop-less-2 c = omega (arith, c .before .before .loop-test .taken, c .before .before .before .loop .inv)
 
--- src/lib.rt:298:5
 loop-again-2 : tie.Need-loop-again-2 Inv-loop μ-loop Inv-loop2 μ-loop2
 loop-again-2 c =
     let start = c .before .before .before .before .before .before .before .before .before .before .before in
@@ -124,7 +102,6 @@ loop-again-2 c =
     let v : Visit = visit (a .t1) (c .before .before .before .before .before .before .before .before .clamp .result) (a .id) (a .extended) (now (a .bytes)) (a .data-len) in
     search-other v (sound start) (c .before .before .before .loop .inv) (omega (arith, c .before .before .loop-test .taken)) (ne-eqb _ _ (c .if1 .left))
 
--- src/lib.rt:308:5
 loop2-holds : tie.Need-loop2-holds Inv-loop μ-loop Inv-loop2 μ-loop2
 loop2-holds c =
     let start = c .before .before .before .before .before .before .before .before .before in
@@ -132,23 +109,18 @@ loop2-holds c =
     let v : Visit = visit (a .t1) (c .before .before .before .before .before .before .clamp .result) (a .id) (a .extended) (now (a .bytes)) (a .data-len) in
     moving-begins v (sound start) (c .before .loop .m) (c .before .loop .inv .few) (c .before .before .count-equal .ensures) (c .before .before .before .before .before .before .before .no-reports .ensures)
 
--- src/lib.rt:310:9
 add-next : tie.Need-add-next Inv-loop μ-loop Inv-loop2 μ-loop2
 add-next c = omega (arith, c .loop2-test .taken, c .before .loop2 .inv)
 
--- src/lib.rt:311:12
 mul-if2 : tie.Need-mul-if2 Inv-loop μ-loop Inv-loop2 μ-loop2
 mul-if2 c = omega (arith, c .loop2-test .taken, c .before .loop2 .inv)
 
--- src/lib.rt:311:12
 element-copy-out-if2 : tie.Need-element-copy-out-if2 Inv-loop μ-loop Inv-loop2 μ-loop2
 element-copy-out-if2 c = omega (arith, c .loop2-test .taken, c .before .loop2 .inv)
 
--- src/lib.rt:308:5
 loop2-less : tie.Need-loop2-less Inv-loop μ-loop Inv-loop2 μ-loop2
 loop2-less c = omega (arith, c .before .before .loop2-test .taken, c .before .before .before .loop2 .inv)
 
--- src/lib.rt:308:5
 loop2-again : tie.Need-loop2-again Inv-loop μ-loop Inv-loop2 μ-loop2
 loop2-again c =
     let start = c .before .before .before .before .before .before .before .before .before .before .before .before .before in
@@ -156,27 +128,21 @@ loop2-again c =
     let v : Visit = visit (a .t1) (c .before .before .before .before .before .before .before .before .before .before .clamp .result) (a .id) (a .extended) (now (a .bytes)) (a .data-len) in
     other-id v (sound start) (c .before .before .before .before .before .loop .m) (c .before .before .before .loop2 .inv) (omega (arith, c .before .before .loop2-test .taken)) (ne-eqb _ _ (c .if2 .taken))
 
--- src/lib.rt:314:9
 sub-left : tie.Need-sub-left Inv-loop μ-loop Inv-loop2 μ-loop2
 sub-left c = omega (arith, c .before .before .loop2-test .taken, c .before .before .before .loop2 .inv)
 
--- src/lib.rt:315:22
 mul-signal-2 : tie.Need-mul-signal-2 Inv-loop μ-loop Inv-loop2 μ-loop2
 mul-signal-2 c = omega (arith, c .before .before .loop2-test .taken, c .before .before .before .loop2 .inv)
 
--- src/lib.rt:315:22
 element-copy-out-signal-2 : tie.Need-element-copy-out-signal-2 Inv-loop μ-loop Inv-loop2 μ-loop2
 element-copy-out-signal-2 c = omega (arith, c .before .before .loop2-test .taken, c .before .before .before .loop2 .inv)
 
--- src/lib.rt:316:13
 is-typed-requires : tie.Need-is-typed-requires Inv-loop μ-loop Inv-loop2 μ-loop2
 is-typed-requires c κs = search needs
 
--- src/lib.rt:308:5
 loop2-less-2 : tie.Need-loop2-less-2 Inv-loop μ-loop Inv-loop2 μ-loop2
 loop2-less-2 c = omega (arith, c .before .before .before .before .before .loop2-test .taken, c .before .before .before .before .before .before .loop2 .inv)
 
--- src/lib.rt:308:5
 loop2-again-2 : tie.Need-loop2-again-2 Inv-loop μ-loop Inv-loop2 μ-loop2
 loop2-again-2 c =
     let start = c .before .before .before .before .before .before .before .before .before .before .before .before .before .before .before .before in
@@ -184,31 +150,24 @@ loop2-again-2 c =
     let v : Visit = visit (a .t1) (c .before .before .before .before .before .before .before .before .before .before .before .before .before .clamp .result) (a .id) (a .extended) (now (a .bytes)) (a .data-len) in
     other-type v (sound start) (c .before .before .before .before .before .before .before .before .loop .m) (c .before .before .before .before .before .before .loop2 .inv) (omega (arith, c .before .before .before .before .before .loop2-test .taken)) (eq-eqb _ _ (c .before .before .before .if2 .left)) (sym (c .before .is-typed .ensures) ∙ not-true _ (c .if3 .taken))
 
--- src/lib.rt:319:24
 mul-detector : tie.Need-mul-detector Inv-loop μ-loop Inv-loop2 μ-loop2
 mul-detector c = omega (arith, c .before .before .before .before .before .loop2-test .taken, c .before .before .before .before .before .before .loop2 .inv)
 
--- src/lib.rt:319:24
 element-copy-out-detector : tie.Need-element-copy-out-detector Inv-loop μ-loop Inv-loop2 μ-loop2
 element-copy-out-detector c = omega (arith, c .before .before .before .before .before .loop2-test .taken, c .before .before .before .before .before .before .loop2 .inv)
 
--- src/lib.rt:320:13
 stepped-requires : tie.Need-stepped-requires Inv-loop μ-loop Inv-loop2 μ-loop2
 stepped-requires c κs = search needs
 
--- src/lib.rt:322:9
 mul-moved : tie.Need-mul-moved Inv-loop μ-loop Inv-loop2 μ-loop2
 mul-moved c = omega (arith, c .before .before .before .before .before .before .before .before .loop2-test .taken, c .before .before .before .before .before .before .before .before .before .loop2 .inv)
 
--- src/lib.rt:322:9
 element-set-from-moved : tie.Need-element-set-from-moved Inv-loop μ-loop Inv-loop2 μ-loop2
 element-set-from-moved c = omega (arith, c .before .before .before .before .before .before .before .before .loop2-test .taken, c .before .before .before .before .before .before .before .before .before .loop2 .inv)
 
--- src/lib.rt:323:13
 report-of-requires : tie.Need-report-of-requires Inv-loop μ-loop Inv-loop2 μ-loop2
 report-of-requires c κs = search needs
 
--- src/lib.rt:324:9
 mul-report : tie.Need-mul-report Inv-loop μ-loop Inv-loop2 μ-loop2
 mul-report c =
     let start = c .before .before .before .before .before .before .before .before .before .before .before .before .before .before .before .before .before .before .before .before in
@@ -216,7 +175,6 @@ mul-report c =
     let v : Visit = visit (a .t1) (c .before .before .before .before .before .before .before .before .before .before .before .before .before .before .before .before .before .clamp .result) (a .id) (a .extended) (now (a .bytes)) (a .data-len) in
     omega (arith, room-for-report v (sound start) (c .before .before .before .before .before .before .before .before .before .before .before .before .loop .m) (c .before .before .before .before .before .before .before .before .before .before .loop2 .inv), c .before .before .before .before .before .before .before .before .before .loop2-test .taken, c .before .before .before .before .before .before .before .before .before .before .loop2 .inv)
 
--- src/lib.rt:324:9
 element-set-from-report : tie.Need-element-set-from-report Inv-loop μ-loop Inv-loop2 μ-loop2
 element-set-from-report c =
     let start = c .before .before .before .before .before .before .before .before .before .before .before .before .before .before .before .before .before .before .before .before in
@@ -224,7 +182,6 @@ element-set-from-report c =
     let v : Visit = visit (a .t1) (c .before .before .before .before .before .before .before .before .before .before .before .before .before .before .before .before .before .clamp .result) (a .id) (a .extended) (now (a .bytes)) (a .data-len) in
     omega (arith, room-for-report v (sound start) (c .before .before .before .before .before .before .before .before .before .before .before .before .loop .m) (c .before .before .before .before .before .before .before .before .before .before .loop2 .inv), c .before .before .before .before .before .before .before .before .before .loop2-test .taken, c .before .before .before .before .before .before .before .before .before .before .loop2 .inv)
 
--- src/lib.rt:325:9
 add-result : tie.Need-add-result Inv-loop μ-loop Inv-loop2 μ-loop2
 add-result c =
     let start = c .before .before .before .before .before .before .before .before .before .before .before .before .before .before .before .before .before .before .before .before in
@@ -232,37 +189,30 @@ add-result c =
     let v : Visit = visit (a .t1) (c .before .before .before .before .before .before .before .before .before .before .before .before .before .before .before .before .before .clamp .result) (a .id) (a .extended) (now (a .bytes)) (a .data-len) in
     omega (arith, room-for-report v (sound start) (c .before .before .before .before .before .before .before .before .before .before .before .before .loop .m) (c .before .before .before .before .before .before .before .before .before .before .loop2 .inv), c .before .before .before .before .before .before .before .before .before .loop2-test .taken, c .before .before .before .before .before .before .before .before .before .before .loop2 .inv)
 
--- src/lib.rt:326:40
 raised-requires : tie.Need-raised-requires Inv-loop μ-loop Inv-loop2 μ-loop2
 raised-requires c κs = search needs
 
--- src/lib.rt:326:29
 enum-known-anomaly : tie.Need-enum-known-anomaly Inv-loop μ-loop Inv-loop2 μ-loop2
 enum-known-anomaly c = search needs
 
--- src/lib.rt:327:13
 mul-anomaly : tie.Need-mul-anomaly Inv-loop μ-loop Inv-loop2 μ-loop2
 mul-anomaly c =
     let free : c .before .before .before .before .before .before .before .before .before .before .before .before .before .before .loop2 .result .«anomaly_count» < 8 = room _ (ap raisedOf (sym (c .before .anomaly .given .1)) ∙ c .before .before .before .raised .ensures) in
     omega (arith, free)
 
--- src/lib.rt:327:13
 element-set-from-anomaly : tie.Need-element-set-from-anomaly Inv-loop μ-loop Inv-loop2 μ-loop2
 element-set-from-anomaly c =
     let free : c .before .before .before .before .before .before .before .before .before .before .before .before .before .before .loop2 .result .«anomaly_count» < 8 = room _ (ap raisedOf (sym (c .before .anomaly .given .1)) ∙ c .before .before .before .raised .ensures) in
     omega (arith, free)
 
--- src/lib.rt:328:13
 add-result-2 : tie.Need-add-result-2 Inv-loop μ-loop Inv-loop2 μ-loop2
 add-result-2 c =
     let free : c .before .before .before .before .before .before .before .before .before .before .before .before .before .before .loop2 .result .«anomaly_count» < 8 = room _ (ap raisedOf (sym (c .before .anomaly .given .1)) ∙ c .before .before .before .raised .ensures) in
     omega (arith, free)
 
--- src/lib.rt:308:5
 loop2-less-3 : tie.Need-loop2-less-3 Inv-loop μ-loop Inv-loop2 μ-loop2
 loop2-less-3 c = omega (arith, c .before .before .before .before .before .before .before .before .before .before .before .before .before .loop2-test .taken, c .before .before .before .before .before .before .before .before .before .before .before .before .before .before .loop2 .inv)
 
--- src/lib.rt:308:5
 loop2-again-3 : tie.Need-loop2-again-3 Inv-loop μ-loop Inv-loop2 μ-loop2
 loop2-again-3 c =
     let start = c .before .before .before .before .before .before .before .before .before .before .before .before .before .before .before .before .before .before .before .before .before .before .before .before in
@@ -273,11 +223,9 @@ loop2-again-3 c =
 enum-told : tie.Need-enum-told Inv-loop μ-loop Inv-loop2 μ-loop2
 enum-told c = search needs
 
--- src/lib.rt:308:5
 loop2-less-4 : tie.Need-loop2-less-4 Inv-loop μ-loop Inv-loop2 μ-loop2
 loop2-less-4 c = omega (arith, c .before .before .before .before .before .before .before .before .before .before .before .before .loop2-test .taken, c .before .before .before .before .before .before .before .before .before .before .before .before .before .loop2 .inv)
 
--- src/lib.rt:308:5
 loop2-again-4 : tie.Need-loop2-again-4 Inv-loop μ-loop Inv-loop2 μ-loop2
 loop2-again-4 c =
     let start = c .before .before .before .before .before .before .before .before .before .before .before .before .before .before .before .before .before .before .before .before .before .before .before in
@@ -285,7 +233,6 @@ loop2-again-4 c =
     let v : Visit = visit (a .t1) (c .before .before .before .before .before .before .before .before .before .before .before .before .before .before .before .before .before .before .before .before .clamp .result) (a .id) (a .extended) (now (a .bytes)) (a .data-len) in
     moves-quiet v (sound start) (c .before .before .before .before .before .before .before .before .before .before .before .before .before .before .before .loop .m) (c .before .before .before .before .before .before .before .before .before .before .before .before .before .loop2 .inv) (omega (arith, c .before .before .before .before .before .before .before .before .before .before .before .before .loop2-test .taken)) (c .before .before .before .before .before .stepped .result) (c .before .before .before .report-of .result) (eq-eqb _ _ (c .before .before .before .before .before .before .before .before .before .before .if2 .left)) (sym (c .before .before .before .before .before .before .before .before .is-typed .ensures) ∙ not-false _ (c .before .before .before .before .before .before .before .if3 .left)) (c .before .before .before .before .before .stepped .ensures) (c .before .before .before .report-of .ensures) (ap raisedOf (sym (c .enum-told .given .1)) ∙ c .before .before .raised .ensures)
 
--- src/lib.rt:283:1
 returns : tie.Need-returns Inv-loop μ-loop Inv-loop2 μ-loop2
 returns c =
     let start = c .before .before .before .before .before .before .before .before .before .before .before in

@@ -1,3 +1,5 @@
+-- `frames::raised` meets its contract.
+-- Assumes nothing.
 use mathlib.Core.Path.{refl, sym, _∙_}
 use borrow.Author.Tests.{le-ltb}
 use Rattle.table.proofs.Laws.{chosen, passed}
@@ -5,54 +7,40 @@ use Rattle.frames.proofs.Answers.{raises}
 use borrow.Author.Needs.{needs}
 use Rattle.frames.proofs.raised.Statement.{statement}
 use Rattle.frames.proofs.raised.Tie as tie
-use Rattle.frames.proofs.raised.Reads as reads
-use Rattle.frames.proofs.raised.Lts as lts
 
--- src/lib.rt:211:9
 returns : tie.Need-returns
 returns c = sym (passed _ _ refl (le-ltb _ _ (c .if1 .taken)))
 
--- src/lib.rt:215:32
 enum-told : tie.Need-enum-told
 enum-told c = search needs
 
--- src/lib.rt:216:29
 enum-told-2 : tie.Need-enum-told-2
 enum-told-2 c = search needs
 
--- src/lib.rt:217:30
 enum-told-3 : tie.Need-enum-told-3
 enum-told-3 c = search needs
 
--- src/lib.rt:218:32
 enum-told-4 : tie.Need-enum-told-4
 enum-told-4 c = search needs
 
--- src/lib.rt:219:25
 enum-known-outcome : tie.Need-enum-known-outcome
 enum-known-outcome c = search needs
 
--- src/lib.rt:207:1
 returns-2 : tie.Need-returns-2
 returns-2 c = sym (raises (c .before .before .before .args .report) (c .before .before .before .args .listed) (c .before .before .if1 .left) (c .enum-told .given .1))
 
--- src/lib.rt:207:1
 returns-3 : tie.Need-returns-3
 returns-3 c = sym (raises (c .before .before .before .args .report) (c .before .before .before .args .listed) (c .before .before .if1 .left) (c .enum-told2 .given .1))
 
--- src/lib.rt:207:1
 returns-4 : tie.Need-returns-4
 returns-4 c = sym (raises (c .before .before .before .args .report) (c .before .before .before .args .listed) (c .before .before .if1 .left) (c .enum-told3 .given .1))
 
--- src/lib.rt:207:1
 returns-5 : tie.Need-returns-5
 returns-5 c = sym (raises (c .before .before .before .args .report) (c .before .before .before .args .listed) (c .before .before .if1 .left) (c .enum-told4 .given .1))
 
--- src/lib.rt:207:1
 returns-6 : tie.Need-returns-6
 returns-6 c = sym (raises (c .before .before .before .before .before .args .report) (c .before .before .before .before .before .args .listed) (c .before .before .before .before .if1 .left) (c .before .before .outcome .given .1) ∙ chosen _ _ refl (c .if2 .taken))
 
--- src/lib.rt:207:1
 returns-7 : tie.Need-returns-7
 returns-7 c = sym (raises (c .before .before .before .before .before .args .report) (c .before .before .before .before .before .args .listed) (c .before .before .before .before .if1 .left) (c .before .before .outcome .given .1) ∙ passed _ _ refl (c .if2 .left))
 

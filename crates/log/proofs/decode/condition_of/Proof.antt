@@ -1,3 +1,5 @@
+-- `log::decode::condition_of` meets its contract.
+-- Assumes nothing.
 use Rattle.log.specs.Records.{conditionOf}
 use borrow.Author.Tests.{eq-eqb, ne-eqb}
 use Rattle.log.proofs.decode.condition_of.Statement.{statement}

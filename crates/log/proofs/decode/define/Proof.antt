@@ -1,3 +1,5 @@
+-- `log::decode::define` meets its contract.
+-- Assumes nothing.
 use Rattle.log.proofs.Front as front
 use borrow.Author.Needs.{needs}
 use Rattle.log.proofs.decode.define.Statement.{statement}

@@ -1,3 +1,5 @@
+-- `log::decode::frame` meets its contract.
+-- Assumes nothing.
 use Rattle.log.specs.Records.{frameOf}
 use borrow.Author.Tests.{le-leb, lt-leb, le-ltb, lt-ltb}
 use borrow.Author.Needs.{needs}

@@ -1,3 +1,5 @@
+-- `log::decode::is_bad` meets its contract.
+-- Assumes nothing.
 use Rattle.log.specs.Records.{badFlags}
 use borrow.Author.Tests.{eq-eqb, ne-eqb, le-leb, lt-leb}
 use Rattle.log.proofs.decode.is_bad.Statement.{statement}

@@ -1,3 +1,5 @@
+-- `log::decode::item_at_front` meets its contract.
+-- Assumes nothing.
 use mathlib.Core.Path.{_∙_, sym}
 use borrow.Author.Tests.{eq-eqb, ne-eqb}
 use lib.Seq.{length-take-le}

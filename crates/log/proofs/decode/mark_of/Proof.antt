@@ -1,3 +1,5 @@
+-- `log::decode::mark_of` meets its contract.
+-- Assumes nothing.
 use Rattle.log.specs.Records.{markOf}
 use borrow.Author.Tests.{eq-eqb, ne-eqb}
 use Rattle.log.proofs.decode.mark_of.Statement.{statement}

@@ -1,3 +1,5 @@
+-- `log::decode::order_of` meets its contract.
+-- Assumes nothing.
 use Rattle.log.specs.Records.{orderOf}
 use borrow.Author.Tests.{eq-eqb, ne-eqb}
 use Rattle.log.proofs.decode.order_of.Statement.{statement}

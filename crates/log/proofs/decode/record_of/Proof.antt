@@ -1,3 +1,5 @@
+-- `log::decode::record_of` meets its contract.
+-- Assumes nothing.
 use Rattle.log.specs.Records.{sizeOf, recordOf}
 use denote.Ref.{now}
 use mathlib.Core.Path.{_∙_, ap, sym}

@@ -1,3 +1,5 @@
+-- `log::decode::settings` meets its contract.
+-- Assumes nothing.
 use Rattle.log.specs.Records.{settingsOf}
 use borrow.Author.Needs.{needs}
 use Rattle.log.proofs.decode.settings.Statement.{statement}

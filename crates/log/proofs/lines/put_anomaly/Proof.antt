@@ -1,3 +1,5 @@
+-- `log::lines::put_anomaly` meets its contract.
+-- Assumes nothing.
 use Rattle.log.proofs.Texts.{numbers-length, field-length, then, named}
 use Rattle.log.specs.Lines.{numbers, ascii}
 use mathlib.Core.Path.{ap}

@@ -1,3 +1,5 @@
+-- `log::lines::put_answer` meets its contract.
+-- Assumes nothing.
 use Rattle.log.specs.Lines.{line, answerLine, ascii}
 use Rattle.log.proofs.Texts.{named, then, dec-length}
 use mathlib.Core.Path.{_∙_, ap, sym}

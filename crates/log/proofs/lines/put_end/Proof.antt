@@ -1,3 +1,5 @@
+-- `log::lines::put_end` meets its contract.
+-- Assumes nothing.
 use Rattle.log.specs.Lines.{line, ascii}
 use Rattle.log.proofs.Texts.{named}
 use mathlib.Core.Path.{ap}

@@ -1,3 +1,5 @@
+-- `log::lines::put_field` meets its contract.
+-- Assumes nothing.
 use Rattle.log.proofs.Texts.{then, named}
 use Rattle.log.specs.Lines.{hex8}
 use mathlib.Core.Path.{ap}

@@ -1,3 +1,5 @@
+-- `log::lines::put_hex` meets its contract.
+-- Assumes nothing.
 use Rattle.log.proofs.Texts.{named}
 use borrow.Author.Needs.{needs}
 use Rattle.log.proofs.lines.put_hex.Statement.{statement}

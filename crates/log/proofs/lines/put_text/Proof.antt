@@ -1,3 +1,5 @@
+-- `log::lines::put_text` meets its contract.
+-- Assumes nothing.
 use Rattle.log.proofs.Texts.{named}
 use Rattle.log.specs.Lines.{textOf}
 use mathlib.Core.Path.{ap, sym}

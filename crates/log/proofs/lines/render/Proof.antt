@@ -1,3 +1,5 @@
+-- `log::lines::render` meets its contract.
+-- Assumes nothing.
 use lib.ListN.{length}
 use Rattle.log.proofs.Texts.{no-room, kept-whole, written, written-in}
 use denote.Ref.{now}

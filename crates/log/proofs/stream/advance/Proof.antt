@@ -1,3 +1,5 @@
+-- `log::advance` meets its contract: after each turn what was written, with what is to come, is what the definition says of all the bytes.
+-- Assumes nothing.
 use mathlib.Core.Path.{_∙_, sym}
 use Prim.Native.Nat.{ℕ, _-_}
 use native.Mathlib.Omega.{arith}

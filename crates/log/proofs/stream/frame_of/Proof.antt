@@ -1,3 +1,5 @@
+-- `log::stream::frame_of` meets its contract.
+-- Assumes nothing.
 use Rattle.log.proofs.Steps.{framed}
 use denote.Ref.{now}
 use borrow.Author.Needs.{needs}

@@ -1,3 +1,5 @@
+-- `log::stream::last_number` meets its contract.
+-- Assumes nothing.
 use borrow.Author.Tests.{eq-eqb, ne-eqb}
 use Rattle.log.proofs.stream.last_number.Statement.{statement}
 use Rattle.log.proofs.stream.last_number.Tie as tie

@@ -1,3 +1,5 @@
+-- `log::stream::on_called` meets its contract.
+-- Assumes nothing.
 use Rattle.log.proofs.Steps.{sounds}
 use borrow.Author.Needs.{needs}
 use Rattle.log.proofs.stream.on_called.Statement.{statement}

@@ -1,3 +1,5 @@
+-- `log::stream::on_request` meets its contract.
+-- Assumes nothing.
 use Rattle.log.proofs.Steps.{does}
 use Rattle.log.specs.Output.{requestStep, settledStep, calledStep}
 use Rattle.log.proofs.Below.{by-new, by-define, by-remove}

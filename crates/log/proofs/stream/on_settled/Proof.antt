@@ -1,3 +1,5 @@
+-- `log::stream::on_settled` meets its contract.
+-- Assumes nothing.
 use Rattle.log.proofs.Steps.{does, sounds}
 use Rattle.log.proofs.Texts.{nothing}
 use Rattle.log.specs.Output.{settledStep}

@@ -1,3 +1,5 @@
+-- `log::stream::on_stop` meets its contract.
+-- Assumes nothing.
 use Rattle.log.proofs.Steps.{told}
 use mathlib.Core.Path.{refl}
 use native.Mathlib.Omega.{arith}

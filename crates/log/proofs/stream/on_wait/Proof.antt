@@ -1,3 +1,5 @@
+-- `log::stream::on_wait` meets its contract.
+-- Assumes nothing.
 use Rattle.log.proofs.Steps.{told, does, at-end}
 use Rattle.log.proofs.Texts.{nothing}
 use mathlib.Core.Path.{refl}

@@ -1,3 +1,5 @@
+-- `log::stream::start` meets its contract.
+-- Assumes nothing.
 use Rattle.log.specs.Output.{startOf}
 use Rattle.log.proofs.Below.{by-new}
 use Rattle.table.specs.declared.Defined.{Defined}

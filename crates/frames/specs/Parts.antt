@@ -1,4 +1,4 @@
--- What functions inside the layer answer, by the definitions of Frames.
+-- Document 01, "One frame": what functions inside the layer answer, by the definitions of Frames.
 -- Assumes nothing.
 use mathlib.Core.Bool.{Bool, cond}
 use mathlib.Core.List.{List, [], _∷_}

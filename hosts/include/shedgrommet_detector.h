@@ -1,5 +1,5 @@
 /* The detector for hosts that keep their own: what libhost.a exports. Made by `rt staticlib host`; x86-64, System V calls.
- * What each function promises is proved; crates/host/src/lib.rt states it, docs/promises/host.md says it in words.
+ * What each function promises is proved; crates/host/src/lib.rt states it, docs/PROMISES.md says it in words.
  *
  * The host owes the following, and nothing checks it:
  *  - a detector pointer is not null, is aligned to four bytes, and points to a whole EwmaDetector;

@@ -1,7 +1,8 @@
 //! Holds the two programs beside the Rust: scripts of library calls, and logs. Stops at the first difference, which it makes small.
 
 use answers::{framelog, generate as g, Both};
-use std::io::Write;
+use std::fs::File;
+use std::io::{BufWriter, Write};
 use std::path::{Path, PathBuf};
 use std::process::{exit, Command, Stdio};
 use std::time::{Duration, Instant};
@@ -10,11 +11,12 @@ struct Asked {
     seconds: Option<u64>,
     cases: Option<u64>,
     logs: Option<u64>,
+    pack: Option<PathBuf>,
     seed: u64,
 }
 
 fn asked() -> Asked {
-    let mut a = Asked { seconds: None, cases: None, logs: None, seed: 1 };
+    let mut a = Asked { seconds: None, cases: None, logs: None, pack: None, seed: 1 };
     let words: Vec<String> = std::env::args().skip(1).collect();
     for pair in words.chunks(2) {
         let n = pair.get(1).and_then(|n| n.parse().ok());
@@ -23,8 +25,9 @@ fn asked() -> Asked {
             ("--cases", Some(n)) => a.cases = Some(n),
             ("--logs", Some(n)) => a.logs = Some(n),
             ("--seed", Some(n)) => a.seed = n,
+            ("--pack", _) if pair.len() == 2 => a.pack = Some(PathBuf::from(&pair[1])),
             _ => {
-                eprintln!("usage: compare [--seconds N] [--cases N] [--logs N] [--seed N]");
+                eprintln!("usage: compare [--seconds N] [--cases N] [--logs N [--pack FILE]] [--seed N]");
                 exit(2);
             }
         }
@@ -35,9 +38,11 @@ fn asked() -> Asked {
 /// The program's output on an input, which goes by way of a file.
 fn output(program: &Path, input: &[u8], scratch: &Path) -> Vec<u8> {
     std::fs::write(scratch, input).expect("the scratch file is written");
-    let file = std::fs::File::open(scratch).expect("the scratch file is read");
+    let file = File::open(scratch).expect("the scratch file is read");
     let done = Command::new(program).stdin(Stdio::from(file)).stderr(Stdio::inherit()).output();
-    done.unwrap_or_else(|e| panic!("{}: {e}: build it first", program.display())).stdout
+    let done = done.unwrap_or_else(|e| panic!("{}: {e}: build it first", program.display()));
+    assert!(done.status.success(), "{} ended with {} on {}", program.display(), done.status, scratch.display());
+    done.stdout
 }
 
 fn answers_of(script: &str) -> String {
@@ -86,6 +91,14 @@ fn smallest<T: Clone>(items: Vec<T>, differs: impl Fn(&[T]) -> bool) -> Vec<T> {
     }
 }
 
+/// The logs of a folder, in the order of their names.
+fn logs_in(folder: &Path) -> Vec<PathBuf> {
+    let names = std::fs::read_dir(folder).expect("the examples").map(|e| e.expect("a file").path());
+    let mut logs: Vec<PathBuf> = names.filter(|p| p.extension().is_some_and(|e| e == "log")).collect();
+    logs.sort();
+    logs
+}
+
 /// The key of a frame: its effective identifier and frame type.
 fn key(call: &str) -> Option<(u64, bool)> {
     let fields: Vec<&str> = call.split(' ').collect();
@@ -131,6 +144,7 @@ struct Bench {
     replay: PathBuf,
     framelog: PathBuf,
     scratch: PathBuf,
+    pack: Option<BufWriter<File>>,
     calls: u64,
     records: u64,
     logs: u64,
@@ -152,9 +166,17 @@ impl Bench {
         exit(1);
     }
 
+    /// Holds the log program to the Rust's answer, or packs both as `sanitized/loop.c` reads them.
     fn log(&mut self, log: &[u8], records: u64) {
         self.logs += 1;
         self.records += records;
+        if let Some(pack) = &mut self.pack {
+            let answer = log_of(log);
+            for part in [&(log.len() as u64).to_le_bytes()[..], &(answer.len() as u64).to_le_bytes()[..], log, &answer] {
+                pack.write_all(part).expect("the pack is written");
+            }
+            return;
+        }
         let differs = |l: &[u8]| output(&self.framelog, l, &self.scratch) != log_of(l);
         if !differs(log) {
             return;
@@ -240,8 +262,8 @@ impl Bench {
     /// The example logs, cut at every byte, and so many damaged ones.
     fn logs(&mut self, seed: u64, n: u64, since: Instant) {
         let examples = Path::new(env!("CARGO_MANIFEST_DIR")).join("../../examples");
-        for name in ["document01.log", "larger.log"] {
-            let whole = std::fs::read(examples.join(name)).expect("an example");
+        for name in logs_in(&examples).into_iter().chain(logs_in(&examples.join("damaged"))) {
+            let whole = std::fs::read(name).expect("an example");
             for cut in 0..=whole.len() {
                 self.log(&whole[..cut], 0);
             }
@@ -256,6 +278,9 @@ impl Bench {
     }
 
     fn say(&self, since: Instant) {
+        if self.pack.is_some() {
+            return;
+        }
         println!(
             "compared {} calls, {} logs of {} records, {} keys alone: no difference ({} s)",
             self.calls, self.logs, self.records, self.isolated, since.elapsed().as_secs()
@@ -268,7 +293,8 @@ fn main() {
     let asked = asked();
     let bin = Path::new(env!("CARGO_MANIFEST_DIR")).join("../../target/bin");
     let scratch = std::env::temp_dir().join(format!("compare-{}", std::process::id()));
-    let mut b = Bench { replay: bin.join("replay"), framelog: bin.join("framelog"), scratch, calls: 0, records: 0, logs: 0, isolated: 0 };
+    let pack = asked.pack.map(|file| BufWriter::new(File::create(file).expect("the pack is made")));
+    let mut b = Bench { replay: bin.join("replay"), framelog: bin.join("framelog"), scratch, pack, calls: 0, records: 0, logs: 0, isolated: 0 };
     let since = Instant::now();
     let mut said = since;
     if let Some(n) = asked.logs {
@@ -292,6 +318,10 @@ fn main() {
         }
     }
     b.say(since);
+    if let Some(pack) = &mut b.pack {
+        pack.write_all(&[0xff; 16]).and_then(|()| pack.flush()).expect("the pack is written");
+        return;
+    }
     println!("seeds {} to {}", asked.seed, seed.max(asked.seed + 1) - 1);
     let _ = std::fs::remove_file(&b.scratch);
 }

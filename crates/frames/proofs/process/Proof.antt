@@ -9,9 +9,8 @@ use native.Mathlib.Omega.{arith}
 use borrow.Author.Needs.{needs}
 use borrow.Author.Tests.{eq-eqb, ne-eqb, not-true, not-false}
 use denote.Ref.{now}
-use lib.ListN.{length-map}
 use Rattle.table.specs.declared.SignalIdsEngine.{SignalIdsEngine}
-use Rattle.table.proofs.Columns.{Sound}
+use Rattle.table.proofs.Columns.{sound-of}
 use Rattle.frames.specs.Parts.{raisedOf}
 use Rattle.frames.proofs.Answers.{room}
 use Rattle.frames.proofs.Rows.{Visit}
@@ -36,15 +35,6 @@ Inv-loop2 id extended bytes data-len engine₀ result₀ n hits m unseen j left�
 abbrev μ-loop2 : tie.MeasureT-loop2
 μ-loop2 id extended bytes data-len engine₀ result₀ n hits m unseen j left₀ next₀ engine result left next = n - next
 
--- an engine's columns have 64 places
-sound : (c : tie.Start Inv-loop μ-loop Inv-loop2 μ-loop2) → Sound (c .args .t1)
-sound c =
-    record {
-      ids-64 = simp length-map at (c .good .0 .1 .1 .0 .1 .0 .1);
-      signals-64 = simp length-map at (c .good .0 .1 .1 .1 .0 .1 .0 .1);
-      detectors-64 = simp length-map at (c .good .0 .1 .1 .1 .1 .0 .1 .0 .1);
-    }
-
 no-reports-requires : tie.Need-no-reports-requires Inv-loop μ-loop Inv-loop2 μ-loop2
 no-reports-requires c κs = search needs
 
@@ -52,14 +42,15 @@ clamp-requires : tie.Need-clamp-requires Inv-loop μ-loop Inv-loop2 μ-loop2
 clamp-requires c κs = search needs
 
 count-equal-requires : tie.Need-count-equal-requires Inv-loop μ-loop Inv-loop2 μ-loop2
-count-equal-requires c κs = omega (arith, c .before .before .before .clamp .ensures, sound (c .before .before .before .before .before .before) .ids-64)
+count-equal-requires c κs =
+    let start = c .before .before .before .before .before .before in omega (arith, c .before .before .before .clamp .ensures, sound-of (start .args .t1) (start .good .0) .ids-64)
 
 loop-holds : tie.Need-loop-holds Inv-loop μ-loop Inv-loop2 μ-loop2
 loop-holds c =
     let start = c .before .before .before .before .before .before .before in
     let a = start .args in
     let v : Visit = visit (a .t1) (c .before .before .before .before .clamp .result) (a .id) (a .extended) (now (a .bytes)) (a .data-len) in
-    search-begins v (sound start) (omega (arith, c .before .before .before .before .clamp .ensures)) (c .count-equal .ensures)
+    search-begins v (sound-of _ (start .good .0)) (omega (arith, c .before .before .before .before .clamp .ensures)) (c .count-equal .ensures)
 
 sub-j : tie.Need-sub-j Inv-loop μ-loop Inv-loop2 μ-loop2
 sub-j c = omega (arith, c .loop-test .taken, c .before .loop .inv)
@@ -90,7 +81,7 @@ loop-again c =
     let start = c .before .before .before .before .before .before .before .before .before .before .before .before .before in
     let a = start .args in
     let v : Visit = visit (a .t1) (c .before .before .before .before .before .before .before .before .before .before .clamp .result) (a .id) (a .extended) (now (a .bytes)) (a .data-len) in
-    search-named v (sound start) (c .before .before .before .before .before .loop .inv) (omega (arith, c .before .before .before .before .loop-test .taken)) (eq-eqb _ _ (c .before .before .if1 .taken)) (c .selected .ensures)
+    search-named v (sound-of _ (start .good .0)) (c .before .before .before .before .before .loop .inv) (omega (arith, c .before .before .before .before .loop-test .taken)) (eq-eqb _ _ (c .before .before .if1 .taken)) (c .selected .ensures)
 
 loop-less-2 : tie.Need-loop-less-2 Inv-loop μ-loop Inv-loop2 μ-loop2
 loop-less-2 c = omega (arith, c .before .before .loop-test .taken, c .before .before .before .loop .inv)
@@ -100,14 +91,14 @@ loop-again-2 c =
     let start = c .before .before .before .before .before .before .before .before .before .before .before in
     let a = start .args in
     let v : Visit = visit (a .t1) (c .before .before .before .before .before .before .before .before .clamp .result) (a .id) (a .extended) (now (a .bytes)) (a .data-len) in
-    search-other v (sound start) (c .before .before .before .loop .inv) (omega (arith, c .before .before .loop-test .taken)) (ne-eqb _ _ (c .if1 .left))
+    search-other v (sound-of _ (start .good .0)) (c .before .before .before .loop .inv) (omega (arith, c .before .before .loop-test .taken)) (ne-eqb _ _ (c .if1 .left))
 
 loop2-holds : tie.Need-loop2-holds Inv-loop μ-loop Inv-loop2 μ-loop2
 loop2-holds c =
     let start = c .before .before .before .before .before .before .before .before .before in
     let a = start .args in
     let v : Visit = visit (a .t1) (c .before .before .before .before .before .before .clamp .result) (a .id) (a .extended) (now (a .bytes)) (a .data-len) in
-    moving-begins v (sound start) (c .before .loop .m) (c .before .loop .inv .few) (c .before .before .count-equal .ensures) (c .before .before .before .before .before .before .before .no-reports .ensures)
+    moving-begins v (sound-of _ (start .good .0)) (c .before .loop .m) (c .before .loop .inv .few) (c .before .before .count-equal .ensures) (c .before .before .before .before .before .before .before .no-reports .ensures)
 
 add-next : tie.Need-add-next Inv-loop μ-loop Inv-loop2 μ-loop2
 add-next c = omega (arith, c .loop2-test .taken, c .before .loop2 .inv)
@@ -126,7 +117,7 @@ loop2-again c =
     let start = c .before .before .before .before .before .before .before .before .before .before .before .before .before in
     let a = start .args in
     let v : Visit = visit (a .t1) (c .before .before .before .before .before .before .before .before .before .before .clamp .result) (a .id) (a .extended) (now (a .bytes)) (a .data-len) in
-    other-id v (sound start) (c .before .before .before .before .before .loop .m) (c .before .before .before .loop2 .inv) (omega (arith, c .before .before .loop2-test .taken)) (ne-eqb _ _ (c .if2 .taken))
+    other-id v (sound-of _ (start .good .0)) (c .before .before .before .before .before .loop .m) (c .before .before .before .loop2 .inv) (omega (arith, c .before .before .loop2-test .taken)) (ne-eqb _ _ (c .if2 .taken))
 
 sub-left : tie.Need-sub-left Inv-loop μ-loop Inv-loop2 μ-loop2
 sub-left c = omega (arith, c .before .before .loop2-test .taken, c .before .before .before .loop2 .inv)
@@ -148,7 +139,7 @@ loop2-again-2 c =
     let start = c .before .before .before .before .before .before .before .before .before .before .before .before .before .before .before .before in
     let a = start .args in
     let v : Visit = visit (a .t1) (c .before .before .before .before .before .before .before .before .before .before .before .before .before .clamp .result) (a .id) (a .extended) (now (a .bytes)) (a .data-len) in
-    other-type v (sound start) (c .before .before .before .before .before .before .before .before .loop .m) (c .before .before .before .before .before .before .loop2 .inv) (omega (arith, c .before .before .before .before .before .loop2-test .taken)) (eq-eqb _ _ (c .before .before .before .if2 .left)) (sym (c .before .is-typed .ensures) ∙ not-true _ (c .if3 .taken))
+    other-type v (sound-of _ (start .good .0)) (c .before .before .before .before .before .before .before .before .loop .m) (c .before .before .before .before .before .before .loop2 .inv) (omega (arith, c .before .before .before .before .before .loop2-test .taken)) (eq-eqb _ _ (c .before .before .before .if2 .left)) (sym (c .before .is-typed .ensures) ∙ not-true _ (c .if3 .taken))
 
 mul-detector : tie.Need-mul-detector Inv-loop μ-loop Inv-loop2 μ-loop2
 mul-detector c = omega (arith, c .before .before .before .before .before .loop2-test .taken, c .before .before .before .before .before .before .loop2 .inv)
@@ -173,21 +164,21 @@ mul-report c =
     let start = c .before .before .before .before .before .before .before .before .before .before .before .before .before .before .before .before .before .before .before .before in
     let a = start .args in
     let v : Visit = visit (a .t1) (c .before .before .before .before .before .before .before .before .before .before .before .before .before .before .before .before .before .clamp .result) (a .id) (a .extended) (now (a .bytes)) (a .data-len) in
-    omega (arith, room-for-report v (sound start) (c .before .before .before .before .before .before .before .before .before .before .before .before .loop .m) (c .before .before .before .before .before .before .before .before .before .before .loop2 .inv), c .before .before .before .before .before .before .before .before .before .loop2-test .taken, c .before .before .before .before .before .before .before .before .before .before .loop2 .inv)
+    omega (arith, room-for-report v (sound-of _ (start .good .0)) (c .before .before .before .before .before .before .before .before .before .before .before .before .loop .m) (c .before .before .before .before .before .before .before .before .before .before .loop2 .inv), c .before .before .before .before .before .before .before .before .before .loop2-test .taken, c .before .before .before .before .before .before .before .before .before .before .loop2 .inv)
 
 element-set-from-report : tie.Need-element-set-from-report Inv-loop μ-loop Inv-loop2 μ-loop2
 element-set-from-report c =
     let start = c .before .before .before .before .before .before .before .before .before .before .before .before .before .before .before .before .before .before .before .before in
     let a = start .args in
     let v : Visit = visit (a .t1) (c .before .before .before .before .before .before .before .before .before .before .before .before .before .before .before .before .before .clamp .result) (a .id) (a .extended) (now (a .bytes)) (a .data-len) in
-    omega (arith, room-for-report v (sound start) (c .before .before .before .before .before .before .before .before .before .before .before .before .loop .m) (c .before .before .before .before .before .before .before .before .before .before .loop2 .inv), c .before .before .before .before .before .before .before .before .before .loop2-test .taken, c .before .before .before .before .before .before .before .before .before .before .loop2 .inv)
+    omega (arith, room-for-report v (sound-of _ (start .good .0)) (c .before .before .before .before .before .before .before .before .before .before .before .before .loop .m) (c .before .before .before .before .before .before .before .before .before .before .loop2 .inv), c .before .before .before .before .before .before .before .before .before .loop2-test .taken, c .before .before .before .before .before .before .before .before .before .before .loop2 .inv)
 
 add-result : tie.Need-add-result Inv-loop μ-loop Inv-loop2 μ-loop2
 add-result c =
     let start = c .before .before .before .before .before .before .before .before .before .before .before .before .before .before .before .before .before .before .before .before in
     let a = start .args in
     let v : Visit = visit (a .t1) (c .before .before .before .before .before .before .before .before .before .before .before .before .before .before .before .before .before .clamp .result) (a .id) (a .extended) (now (a .bytes)) (a .data-len) in
-    omega (arith, room-for-report v (sound start) (c .before .before .before .before .before .before .before .before .before .before .before .before .loop .m) (c .before .before .before .before .before .before .before .before .before .before .loop2 .inv), c .before .before .before .before .before .before .before .before .before .loop2-test .taken, c .before .before .before .before .before .before .before .before .before .before .loop2 .inv)
+    omega (arith, room-for-report v (sound-of _ (start .good .0)) (c .before .before .before .before .before .before .before .before .before .before .before .before .loop .m) (c .before .before .before .before .before .before .before .before .before .before .loop2 .inv), c .before .before .before .before .before .before .before .before .before .loop2-test .taken, c .before .before .before .before .before .before .before .before .before .before .loop2 .inv)
 
 raised-requires : tie.Need-raised-requires Inv-loop μ-loop Inv-loop2 μ-loop2
 raised-requires c κs = search needs
@@ -218,7 +209,7 @@ loop2-again-3 c =
     let start = c .before .before .before .before .before .before .before .before .before .before .before .before .before .before .before .before .before .before .before .before .before .before .before .before in
     let a = start .args in
     let v : Visit = visit (a .t1) (c .before .before .before .before .before .before .before .before .before .before .before .before .before .before .before .before .before .before .before .before .before .clamp .result) (a .id) (a .extended) (now (a .bytes)) (a .data-len) in
-    moves-listed v (sound start) (c .before .before .before .before .before .before .before .before .before .before .before .before .before .before .before .before .loop .m) (c .before .before .before .before .before .before .before .before .before .before .before .before .before .before .loop2 .inv) (omega (arith, c .before .before .before .before .before .before .before .before .before .before .before .before .before .loop2-test .taken)) (c .before .before .before .before .before .before .stepped .result) (c .before .before .before .before .report-of .result) (eq-eqb _ _ (c .before .before .before .before .before .before .before .before .before .before .before .if2 .left)) (sym (c .before .before .before .before .before .before .before .before .before .is-typed .ensures) ∙ not-false _ (c .before .before .before .before .before .before .before .before .if3 .left)) (c .before .before .before .before .before .before .stepped .ensures) (c .before .before .before .before .report-of .ensures) (c .before .anomaly .given .0 .0) (ap raisedOf (sym (c .before .anomaly .given .1)) ∙ c .before .before .before .raised .ensures)
+    moves-listed v (sound-of _ (start .good .0)) (c .before .before .before .before .before .before .before .before .before .before .before .before .before .before .before .before .loop .m) (c .before .before .before .before .before .before .before .before .before .before .before .before .before .before .loop2 .inv) (omega (arith, c .before .before .before .before .before .before .before .before .before .before .before .before .before .loop2-test .taken)) (c .before .before .before .before .before .before .stepped .result) (c .before .before .before .before .report-of .result) (eq-eqb _ _ (c .before .before .before .before .before .before .before .before .before .before .before .if2 .left)) (sym (c .before .before .before .before .before .before .before .before .before .is-typed .ensures) ∙ not-false _ (c .before .before .before .before .before .before .before .before .if3 .left)) (c .before .before .before .before .before .before .stepped .ensures) (c .before .before .before .before .report-of .ensures) (c .before .anomaly .given .0 .0) (ap raisedOf (sym (c .before .anomaly .given .1)) ∙ c .before .before .before .raised .ensures)
 
 enum-told : tie.Need-enum-told Inv-loop μ-loop Inv-loop2 μ-loop2
 enum-told c = search needs
@@ -231,15 +222,15 @@ loop2-again-4 c =
     let start = c .before .before .before .before .before .before .before .before .before .before .before .before .before .before .before .before .before .before .before .before .before .before .before in
     let a = start .args in
     let v : Visit = visit (a .t1) (c .before .before .before .before .before .before .before .before .before .before .before .before .before .before .before .before .before .before .before .before .clamp .result) (a .id) (a .extended) (now (a .bytes)) (a .data-len) in
-    moves-quiet v (sound start) (c .before .before .before .before .before .before .before .before .before .before .before .before .before .before .before .loop .m) (c .before .before .before .before .before .before .before .before .before .before .before .before .before .loop2 .inv) (omega (arith, c .before .before .before .before .before .before .before .before .before .before .before .before .loop2-test .taken)) (c .before .before .before .before .before .stepped .result) (c .before .before .before .report-of .result) (eq-eqb _ _ (c .before .before .before .before .before .before .before .before .before .before .if2 .left)) (sym (c .before .before .before .before .before .before .before .before .is-typed .ensures) ∙ not-false _ (c .before .before .before .before .before .before .before .if3 .left)) (c .before .before .before .before .before .stepped .ensures) (c .before .before .before .report-of .ensures) (ap raisedOf (sym (c .enum-told .given .1)) ∙ c .before .before .raised .ensures)
+    moves-quiet v (sound-of _ (start .good .0)) (c .before .before .before .before .before .before .before .before .before .before .before .before .before .before .before .loop .m) (c .before .before .before .before .before .before .before .before .before .before .before .before .before .loop2 .inv) (omega (arith, c .before .before .before .before .before .before .before .before .before .before .before .before .loop2-test .taken)) (c .before .before .before .before .before .stepped .result) (c .before .before .before .report-of .result) (eq-eqb _ _ (c .before .before .before .before .before .before .before .before .before .before .if2 .left)) (sym (c .before .before .before .before .before .before .before .before .is-typed .ensures) ∙ not-false _ (c .before .before .before .before .before .before .before .if3 .left)) (c .before .before .before .before .before .stepped .ensures) (c .before .before .before .report-of .ensures) (ap raisedOf (sym (c .enum-told .given .1)) ∙ c .before .before .raised .ensures)
 
 returns : tie.Need-returns Inv-loop μ-loop Inv-loop2 μ-loop2
 returns c =
     let start = c .before .before .before .before .before .before .before .before .before .before .before in
     let a = start .args in
     let v : Visit = visit (a .t1) (c .before .before .before .before .before .before .before .before .clamp .result) (a .id) (a .extended) (now (a .bytes)) (a .data-len) in
-    let number = search-ends v (sound start) (c .before .before .before .loop .inv) (omega (arith, c .before .before .loop-test .left)) (c .before .before .before .before .before .before .before .before .clamp .ensures) in
-    moving-ends v (sound start) (c .before .before .before .loop .m) (c .before .loop2 .inv) (omega (arith, c .loop2-test .left)) (c .before .before .before .before .before .before .before .before .clamp .ensures) number
+    let number = search-ends v (sound-of _ (start .good .0)) (c .before .before .before .loop .inv) (omega (arith, c .before .before .loop-test .left)) (c .before .before .before .before .before .before .before .before .clamp .ensures) in
+    moving-ends v (sound-of _ (start .good .0)) (c .before .before .before .loop .m) (c .before .loop2 .inv) (omega (arith, c .loop2-test .left)) (c .before .before .before .before .before .before .before .before .clamp .ensures) number
 
 pub process-spec : {M : Type 1} → statement M
 process-spec =

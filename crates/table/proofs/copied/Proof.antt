@@ -3,11 +3,11 @@ use mathlib.Core.Path.{_≡_, sym, ap, _∙_}
 use mathlib.Core.List.{List, [], _∷_, _++_, append-nil, append-assoc}
 use Prim.Native.Nat.{ℕ, _+_, _-_, _≤_}
 use native.Mathlib.Omega.{arith}
-use lib.ListN.{length-map, take, drop}
+use lib.ListN.{take, drop}
 use Rattle.table.specs.declared.Entry.{Entry}
 use Rattle.table.specs.Table.{rowsOf, live, tableOf, engineOf, withRows}
 use Rattle.table.proofs.Laws.{slice-more, slice-none}
-use Rattle.table.proofs.Columns.{past, Sound, length-rows, row-is, stored}
+use Rattle.table.proofs.Columns.{past, sound-of, length-rows, row-is, stored}
 use Rattle.table.proofs.copied.Statement.{statement}
 use Rattle.table.proofs.copied.Tie as tie
 
@@ -17,14 +17,6 @@ Inv-loop from to e out₀ i₀ out i =
 
 abbrev μ-loop : tie.MeasureT-loop
 μ-loop from to e out₀ i₀ out i = to - i
-
-sound : (c : tie.Start Inv-loop μ-loop) → Sound (c .args .t1)
-sound c =
-    record {
-      ids-64 = simp length-map at (c .good .0 .1 .1 .0 .1 .0 .1);
-      signals-64 = simp length-map at (c .good .0 .1 .1 .1 .0 .1 .0 .1);
-      detectors-64 = simp length-map at (c .good .0 .1 .1 .1 .1 .0 .1 .0 .1);
-    }
 
 loop-holds : tie.Need-loop-holds Inv-loop μ-loop
 loop-holds c =
@@ -88,7 +80,7 @@ loop-again c =
     let out₀ = start .args .t4 in
     let i = turn .i in
     let from = start .args .from in
-    let good = sound start in
+    let good = sound-of e (start .good .0) in
     let long = length-rows e good in
     let more : (live out₀ ++ drop from (take i (rowsOf e))) ++ (_ ∷ []) ≡ live out₀ ++ drop from (take (i + 1) (rowsOf e)) =
     append-assoc (live out₀) (drop from (take i (rowsOf e))) (_ ∷ [])

@@ -4,12 +4,12 @@ use mathlib.Core.Bool.{not}
 use Prim.Native.Nat.{_+_, _-_, _≤_}
 use native.Mathlib.Omega.{arith}
 use borrow.Author.Tests.{eq-eqb, ne-eqb}
-use lib.ListN.{length-map, take, drop}
+use lib.ListN.{take, drop}
 use Rattle.table.specs.declared.Entry.{Entry}
 use Rattle.table.specs.Rows.{front}
 use Rattle.table.specs.Table.{rowsOf, other}
 use Rattle.table.proofs.Laws.{front-next, front-stop, front-end}
-use Rattle.table.proofs.Columns.{past, Sound, length-rows, row-is}
+use Rattle.table.proofs.Columns.{past, sound-of, length-rows, row-is}
 use Rattle.table.proofs.place_of.Statement.{statement}
 use Rattle.table.proofs.place_of.Tie as tie
 
@@ -18,14 +18,6 @@ Inv-loop n slot e i₀ i = (i ≤ n) × (front (other slot) (take n (rowsOf e)) 
 
 abbrev μ-loop : tie.MeasureT-loop
 μ-loop n slot e i₀ i = n - i
-
-sound : (c : tie.Start Inv-loop μ-loop) → Sound (c .args .t1)
-sound c =
-    record {
-      ids-64 = simp length-map at (c .good .0 .1 .1 .0 .1 .0 .1);
-      signals-64 = simp length-map at (c .good .0 .1 .1 .1 .0 .1 .0 .1);
-      detectors-64 = simp length-map at (c .good .0 .1 .1 .1 .1 .0 .1 .0 .1);
-    }
 
 loop-holds : tie.Need-loop-holds Inv-loop μ-loop
 loop-holds c = (omega arith, omega arith)
@@ -41,8 +33,8 @@ returns c =
     let start = c .before .before .before .before .before in
     let turn = c .before .before .before .before .loop in
     let e = start .args .t1 in
-    let slot-is = ap (λ (a : Entry). a .signal .slot) (row-is e (sound start) (turn .i)) in
-    let long = length-rows e (sound start) in
+    let slot-is = ap (λ (a : Entry). a .signal .slot) (row-is e (sound-of _ (start .good .0)) (turn .i)) in
+    let long = length-rows e (sound-of _ (start .good .0)) in
     front-stop (other (start .args .slot)) (rowsOf e) (start .args .n) (turn .i) past (c .before .before .before .loop-test .taken) (omega arith) (ap not (eq-eqb _ _ (sym slot-is ∙ c .if1 .taken))) (turn .inv .1)
 
 add-i : tie.Need-add-i Inv-loop μ-loop
@@ -56,8 +48,8 @@ loop-again c =
     let start = c .before .before .before .before .before in
     let turn = c .before .before .before .before .loop in
     let e = start .args .t1 in
-    let slot-is = ap (λ (a : Entry). a .signal .slot) (row-is e (sound start) (turn .i)) in
-    let long = length-rows e (sound start) in (
+    let slot-is = ap (λ (a : Entry). a .signal .slot) (row-is e (sound-of _ (start .good .0)) (turn .i)) in
+    let long = length-rows e (sound-of _ (start .good .0)) in (
       omega arith,
       front-next (other (start .args .slot)) (rowsOf e) (start .args .n) (turn .i) past (c .before .before .before .loop-test .taken) (omega arith)
           (ap not (ne-eqb _ _ (λ q. c .if1 .left (slot-is ∙ q))))
@@ -69,7 +61,7 @@ returns-2 c =
     let start = c .before .before in
     let turn = c .before .loop in
     let e = start .args .t1 in
-    let long = length-rows e (sound start) in
+    let long = length-rows e (sound-of _ (start .good .0)) in
     front-end (other (start .args .slot)) (rowsOf e) (start .args .n) (turn .i) (c .loop-test .left) (omega arith) (omega arith) (turn .inv .1)
 
 pub place-of-spec : {M : Type 1} → statement M

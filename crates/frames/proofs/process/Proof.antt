@@ -10,7 +10,7 @@ use borrow.Author.Needs.{needs}
 use borrow.Author.Tests.{eq-eqb, ne-eqb, not-true, not-false}
 use denote.Ref.{now}
 use Rattle.table.specs.declared.SignalIdsEngine.{SignalIdsEngine}
-use Rattle.table.proofs.Columns.{sound-of}
+use Rattle.table.proofs.Columns.{Sound, sound-of}
 use Rattle.frames.specs.Parts.{raisedOf}
 use Rattle.frames.proofs.Answers.{room}
 use Rattle.frames.proofs.Rows.{Visit}
@@ -19,21 +19,38 @@ use Rattle.frames.proofs.Moves.{Moving, moving-begins, room-for-report,
 use Rattle.frames.proofs.process.Statement.{statement}
 use Rattle.frames.proofs.process.Tie as tie
 
-abbrev visit : SignalIdsEngine → ℕ → ℕ → Bool → List ℕ → ℕ → Visit
-visit engine n id extended bytes size = record { engine = engine; n = n; id = id; extended = extended; bytes = bytes; size = size }
-
 abbrev Inv-loop : tie.InvT-loop
-Inv-loop id extended bytes data-len engine result n hits m₀ unseen₀ j₀ m unseen j = Searching (visit engine n id extended bytes data-len) m unseen j
+Inv-loop id extended bytes data-len engine result n hits m₀ unseen₀ j₀ m unseen j =
+    Searching (record { engine = engine; n = n; id = id; extended = extended; bytes = bytes; size = data-len }) m unseen j
 
 abbrev μ-loop : tie.MeasureT-loop
 μ-loop id extended bytes data-len engine result n hits m₀ unseen₀ j₀ m unseen j = j
 
 abbrev Inv-loop2 : tie.InvT-loop2
 Inv-loop2 id extended bytes data-len engine₀ result₀ n hits m unseen j left₀ next₀ engine result left next =
-    Moving (visit engine₀ n id extended bytes data-len) m engine result left next
+    Moving (record { engine = engine₀; n = n; id = id; extended = extended; bytes = bytes; size = data-len }) m engine result left next
 
 abbrev μ-loop2 : tie.MeasureT-loop2
 μ-loop2 id extended bytes data-len engine₀ result₀ n hits m unseen j left₀ next₀ engine result left next = n - next
+
+-- the rows and the frame that both loops are over
+abbrev visited : tie.After-clamp Inv-loop μ-loop Inv-loop2 μ-loop2 → Visit
+visited c =
+    let a = c .before .before .before .args in
+    record { engine = a .t1; n = c .clamp .result; id = a .id; extended = a .extended; bytes = now (a .bytes); size = a .data-len }
+
+columns : (c : tie.After-clamp Inv-loop μ-loop Inv-loop2 μ-loop2) → Sound (visited c .engine)
+columns c = sound-of _ (c .before .before .before .good .0)
+
+-- there is a place for the row's report, and for the anomaly that was found
+report-fits : (c : tie.After-report-of Inv-loop μ-loop Inv-loop2 μ-loop2) → c .before .before .before .before .before .before .before .before .before .before .loop2 .result .«report_count» < 64
+report-fits c =
+    let turn = c .before .before .before .before .before .before .before .before .before .before .loop2 in
+    let clamped = c .before .before .before .before .before .before .before .before .before .before .before .before .before .before .before .before .before in
+    omega (arith, room-for-report (visited clamped) (columns clamped) (c .before .before .before .before .before .before .before .before .before .before .before .before .loop .m) (turn .inv), c .before .before .before .before .before .before .before .before .before .loop2-test .taken, turn .inv)
+
+anomaly-fits : (c : tie.After-anomaly Inv-loop μ-loop Inv-loop2 μ-loop2) → c .before .before .before .before .before .before .before .before .before .before .before .before .before .loop2 .result .«anomaly_count» < 8
+anomaly-fits c = room _ (ap raisedOf (sym (c .anomaly .given .1)) ∙ c .before .before .raised .ensures)
 
 no-reports-requires : tie.Need-no-reports-requires Inv-loop μ-loop Inv-loop2 μ-loop2
 no-reports-requires c κs = search needs
@@ -42,15 +59,12 @@ clamp-requires : tie.Need-clamp-requires Inv-loop μ-loop Inv-loop2 μ-loop2
 clamp-requires c κs = search needs
 
 count-equal-requires : tie.Need-count-equal-requires Inv-loop μ-loop Inv-loop2 μ-loop2
-count-equal-requires c κs =
-    let start = c .before .before .before .before .before .before in omega (arith, c .before .before .before .clamp .ensures, sound-of (start .args .t1) (start .good .0) .ids-64)
+count-equal-requires c κs = omega (arith, c .before .before .before .clamp .ensures, columns (c .before .before .before) .ids-64)
 
 loop-holds : tie.Need-loop-holds Inv-loop μ-loop Inv-loop2 μ-loop2
 loop-holds c =
-    let start = c .before .before .before .before .before .before .before in
-    let a = start .args in
-    let v : Visit = visit (a .t1) (c .before .before .before .before .clamp .result) (a .id) (a .extended) (now (a .bytes)) (a .data-len) in
-    search-begins v (sound-of _ (start .good .0)) (omega (arith, c .before .before .before .before .clamp .ensures)) (c .count-equal .ensures)
+    let clamped = c .before .before .before .before in
+    search-begins (visited clamped) (columns clamped) (omega (arith, clamped .clamp .ensures)) (c .count-equal .ensures)
 
 sub-j : tie.Need-sub-j Inv-loop μ-loop Inv-loop2 μ-loop2
 sub-j c = omega (arith, c .loop-test .taken, c .before .loop .inv)
@@ -78,27 +92,21 @@ loop-less c = omega (arith, c .before .before .before .before .loop-test .taken,
 
 loop-again : tie.Need-loop-again Inv-loop μ-loop Inv-loop2 μ-loop2
 loop-again c =
-    let start = c .before .before .before .before .before .before .before .before .before .before .before .before .before in
-    let a = start .args in
-    let v : Visit = visit (a .t1) (c .before .before .before .before .before .before .before .before .before .before .clamp .result) (a .id) (a .extended) (now (a .bytes)) (a .data-len) in
-    search-named v (sound-of _ (start .good .0)) (c .before .before .before .before .before .loop .inv) (omega (arith, c .before .before .before .before .loop-test .taken)) (eq-eqb _ _ (c .before .before .if1 .taken)) (c .selected .ensures)
+    let clamped = c .before .before .before .before .before .before .before .before .before .before in
+    search-named (visited clamped) (columns clamped) (c .before .before .before .before .before .loop .inv) (omega (arith, c .before .before .before .before .loop-test .taken)) (eq-eqb _ _ (c .before .before .if1 .taken)) (c .selected .ensures)
 
 loop-less-2 : tie.Need-loop-less-2 Inv-loop μ-loop Inv-loop2 μ-loop2
 loop-less-2 c = omega (arith, c .before .before .loop-test .taken, c .before .before .before .loop .inv)
 
 loop-again-2 : tie.Need-loop-again-2 Inv-loop μ-loop Inv-loop2 μ-loop2
 loop-again-2 c =
-    let start = c .before .before .before .before .before .before .before .before .before .before .before in
-    let a = start .args in
-    let v : Visit = visit (a .t1) (c .before .before .before .before .before .before .before .before .clamp .result) (a .id) (a .extended) (now (a .bytes)) (a .data-len) in
-    search-other v (sound-of _ (start .good .0)) (c .before .before .before .loop .inv) (omega (arith, c .before .before .loop-test .taken)) (ne-eqb _ _ (c .if1 .left))
+    let clamped = c .before .before .before .before .before .before .before .before in
+    search-other (visited clamped) (columns clamped) (c .before .before .before .loop .inv) (omega (arith, c .before .before .loop-test .taken)) (ne-eqb _ _ (c .if1 .left))
 
 loop2-holds : tie.Need-loop2-holds Inv-loop μ-loop Inv-loop2 μ-loop2
 loop2-holds c =
-    let start = c .before .before .before .before .before .before .before .before .before in
-    let a = start .args in
-    let v : Visit = visit (a .t1) (c .before .before .before .before .before .before .clamp .result) (a .id) (a .extended) (now (a .bytes)) (a .data-len) in
-    moving-begins v (sound-of _ (start .good .0)) (c .before .loop .m) (c .before .loop .inv .few) (c .before .before .count-equal .ensures) (c .before .before .before .before .before .before .before .no-reports .ensures)
+    let clamped = c .before .before .before .before .before .before in
+    moving-begins (visited clamped) (columns clamped) (c .before .loop .m) (c .before .loop .inv .few) (c .before .before .count-equal .ensures) (c .before .before .before .before .before .before .before .no-reports .ensures)
 
 add-next : tie.Need-add-next Inv-loop μ-loop Inv-loop2 μ-loop2
 add-next c = omega (arith, c .loop2-test .taken, c .before .loop2 .inv)
@@ -114,10 +122,8 @@ loop2-less c = omega (arith, c .before .before .loop2-test .taken, c .before .be
 
 loop2-again : tie.Need-loop2-again Inv-loop μ-loop Inv-loop2 μ-loop2
 loop2-again c =
-    let start = c .before .before .before .before .before .before .before .before .before .before .before .before .before in
-    let a = start .args in
-    let v : Visit = visit (a .t1) (c .before .before .before .before .before .before .before .before .before .before .clamp .result) (a .id) (a .extended) (now (a .bytes)) (a .data-len) in
-    other-id v (sound-of _ (start .good .0)) (c .before .before .before .before .before .loop .m) (c .before .before .before .loop2 .inv) (omega (arith, c .before .before .loop2-test .taken)) (ne-eqb _ _ (c .if2 .taken))
+    let clamped = c .before .before .before .before .before .before .before .before .before .before in
+    other-id (visited clamped) (columns clamped) (c .before .before .before .before .before .loop .m) (c .before .before .before .loop2 .inv) (omega (arith, c .before .before .loop2-test .taken)) (ne-eqb _ _ (c .if2 .taken))
 
 sub-left : tie.Need-sub-left Inv-loop μ-loop Inv-loop2 μ-loop2
 sub-left c = omega (arith, c .before .before .loop2-test .taken, c .before .before .before .loop2 .inv)
@@ -136,10 +142,8 @@ loop2-less-2 c = omega (arith, c .before .before .before .before .before .loop2-
 
 loop2-again-2 : tie.Need-loop2-again-2 Inv-loop μ-loop Inv-loop2 μ-loop2
 loop2-again-2 c =
-    let start = c .before .before .before .before .before .before .before .before .before .before .before .before .before .before .before .before in
-    let a = start .args in
-    let v : Visit = visit (a .t1) (c .before .before .before .before .before .before .before .before .before .before .before .before .before .clamp .result) (a .id) (a .extended) (now (a .bytes)) (a .data-len) in
-    other-type v (sound-of _ (start .good .0)) (c .before .before .before .before .before .before .before .before .loop .m) (c .before .before .before .before .before .before .loop2 .inv) (omega (arith, c .before .before .before .before .before .loop2-test .taken)) (eq-eqb _ _ (c .before .before .before .if2 .left)) (sym (c .before .is-typed .ensures) ∙ not-true _ (c .if3 .taken))
+    let clamped = c .before .before .before .before .before .before .before .before .before .before .before .before .before in
+    other-type (visited clamped) (columns clamped) (c .before .before .before .before .before .before .before .before .loop .m) (c .before .before .before .before .before .before .loop2 .inv) (omega (arith, c .before .before .before .before .before .loop2-test .taken)) (eq-eqb _ _ (c .before .before .before .if2 .left)) (sym (c .before .is-typed .ensures) ∙ not-true _ (c .if3 .taken))
 
 mul-detector : tie.Need-mul-detector Inv-loop μ-loop Inv-loop2 μ-loop2
 mul-detector c = omega (arith, c .before .before .before .before .before .loop2-test .taken, c .before .before .before .before .before .before .loop2 .inv)
@@ -160,25 +164,13 @@ report-of-requires : tie.Need-report-of-requires Inv-loop μ-loop Inv-loop2 μ-l
 report-of-requires c κs = search needs
 
 mul-report : tie.Need-mul-report Inv-loop μ-loop Inv-loop2 μ-loop2
-mul-report c =
-    let start = c .before .before .before .before .before .before .before .before .before .before .before .before .before .before .before .before .before .before .before .before in
-    let a = start .args in
-    let v : Visit = visit (a .t1) (c .before .before .before .before .before .before .before .before .before .before .before .before .before .before .before .before .before .clamp .result) (a .id) (a .extended) (now (a .bytes)) (a .data-len) in
-    omega (arith, room-for-report v (sound-of _ (start .good .0)) (c .before .before .before .before .before .before .before .before .before .before .before .before .loop .m) (c .before .before .before .before .before .before .before .before .before .before .loop2 .inv), c .before .before .before .before .before .before .before .before .before .loop2-test .taken, c .before .before .before .before .before .before .before .before .before .before .loop2 .inv)
+mul-report c = omega (arith, report-fits c)
 
 element-set-from-report : tie.Need-element-set-from-report Inv-loop μ-loop Inv-loop2 μ-loop2
-element-set-from-report c =
-    let start = c .before .before .before .before .before .before .before .before .before .before .before .before .before .before .before .before .before .before .before .before in
-    let a = start .args in
-    let v : Visit = visit (a .t1) (c .before .before .before .before .before .before .before .before .before .before .before .before .before .before .before .before .before .clamp .result) (a .id) (a .extended) (now (a .bytes)) (a .data-len) in
-    omega (arith, room-for-report v (sound-of _ (start .good .0)) (c .before .before .before .before .before .before .before .before .before .before .before .before .loop .m) (c .before .before .before .before .before .before .before .before .before .before .loop2 .inv), c .before .before .before .before .before .before .before .before .before .loop2-test .taken, c .before .before .before .before .before .before .before .before .before .before .loop2 .inv)
+element-set-from-report c = omega (arith, report-fits c)
 
 add-result : tie.Need-add-result Inv-loop μ-loop Inv-loop2 μ-loop2
-add-result c =
-    let start = c .before .before .before .before .before .before .before .before .before .before .before .before .before .before .before .before .before .before .before .before in
-    let a = start .args in
-    let v : Visit = visit (a .t1) (c .before .before .before .before .before .before .before .before .before .before .before .before .before .before .before .before .before .clamp .result) (a .id) (a .extended) (now (a .bytes)) (a .data-len) in
-    omega (arith, room-for-report v (sound-of _ (start .good .0)) (c .before .before .before .before .before .before .before .before .before .before .before .before .loop .m) (c .before .before .before .before .before .before .before .before .before .before .loop2 .inv), c .before .before .before .before .before .before .before .before .before .loop2-test .taken, c .before .before .before .before .before .before .before .before .before .before .loop2 .inv)
+add-result c = omega (arith, report-fits c)
 
 raised-requires : tie.Need-raised-requires Inv-loop μ-loop Inv-loop2 μ-loop2
 raised-requires c κs = search needs
@@ -187,29 +179,21 @@ enum-known-anomaly : tie.Need-enum-known-anomaly Inv-loop μ-loop Inv-loop2 μ-l
 enum-known-anomaly c = search needs
 
 mul-anomaly : tie.Need-mul-anomaly Inv-loop μ-loop Inv-loop2 μ-loop2
-mul-anomaly c =
-    let free : c .before .before .before .before .before .before .before .before .before .before .before .before .before .before .loop2 .result .«anomaly_count» < 8 = room _ (ap raisedOf (sym (c .before .anomaly .given .1)) ∙ c .before .before .before .raised .ensures) in
-    omega (arith, free)
+mul-anomaly c = omega (arith, anomaly-fits (c .before))
 
 element-set-from-anomaly : tie.Need-element-set-from-anomaly Inv-loop μ-loop Inv-loop2 μ-loop2
-element-set-from-anomaly c =
-    let free : c .before .before .before .before .before .before .before .before .before .before .before .before .before .before .loop2 .result .«anomaly_count» < 8 = room _ (ap raisedOf (sym (c .before .anomaly .given .1)) ∙ c .before .before .before .raised .ensures) in
-    omega (arith, free)
+element-set-from-anomaly c = omega (arith, anomaly-fits (c .before))
 
 add-result-2 : tie.Need-add-result-2 Inv-loop μ-loop Inv-loop2 μ-loop2
-add-result-2 c =
-    let free : c .before .before .before .before .before .before .before .before .before .before .before .before .before .before .loop2 .result .«anomaly_count» < 8 = room _ (ap raisedOf (sym (c .before .anomaly .given .1)) ∙ c .before .before .before .raised .ensures) in
-    omega (arith, free)
+add-result-2 c = omega (arith, anomaly-fits (c .before))
 
 loop2-less-3 : tie.Need-loop2-less-3 Inv-loop μ-loop Inv-loop2 μ-loop2
 loop2-less-3 c = omega (arith, c .before .before .before .before .before .before .before .before .before .before .before .before .before .loop2-test .taken, c .before .before .before .before .before .before .before .before .before .before .before .before .before .before .loop2 .inv)
 
 loop2-again-3 : tie.Need-loop2-again-3 Inv-loop μ-loop Inv-loop2 μ-loop2
 loop2-again-3 c =
-    let start = c .before .before .before .before .before .before .before .before .before .before .before .before .before .before .before .before .before .before .before .before .before .before .before .before in
-    let a = start .args in
-    let v : Visit = visit (a .t1) (c .before .before .before .before .before .before .before .before .before .before .before .before .before .before .before .before .before .before .before .before .before .clamp .result) (a .id) (a .extended) (now (a .bytes)) (a .data-len) in
-    moves-listed v (sound-of _ (start .good .0)) (c .before .before .before .before .before .before .before .before .before .before .before .before .before .before .before .before .loop .m) (c .before .before .before .before .before .before .before .before .before .before .before .before .before .before .loop2 .inv) (omega (arith, c .before .before .before .before .before .before .before .before .before .before .before .before .before .loop2-test .taken)) (c .before .before .before .before .before .before .stepped .result) (c .before .before .before .before .report-of .result) (eq-eqb _ _ (c .before .before .before .before .before .before .before .before .before .before .before .if2 .left)) (sym (c .before .before .before .before .before .before .before .before .before .is-typed .ensures) ∙ not-false _ (c .before .before .before .before .before .before .before .before .if3 .left)) (c .before .before .before .before .before .before .stepped .ensures) (c .before .before .before .before .report-of .ensures) (c .before .anomaly .given .0 .0) (ap raisedOf (sym (c .before .anomaly .given .1)) ∙ c .before .before .before .raised .ensures)
+    let clamped = c .before .before .before .before .before .before .before .before .before .before .before .before .before .before .before .before .before .before .before .before .before in
+    moves-listed (visited clamped) (columns clamped) (c .before .before .before .before .before .before .before .before .before .before .before .before .before .before .before .before .loop .m) (c .before .before .before .before .before .before .before .before .before .before .before .before .before .before .loop2 .inv) (omega (arith, c .before .before .before .before .before .before .before .before .before .before .before .before .before .loop2-test .taken)) (c .before .before .before .before .before .before .stepped .result) (c .before .before .before .before .report-of .result) (eq-eqb _ _ (c .before .before .before .before .before .before .before .before .before .before .before .if2 .left)) (sym (c .before .before .before .before .before .before .before .before .before .is-typed .ensures) ∙ not-false _ (c .before .before .before .before .before .before .before .before .if3 .left)) (c .before .before .before .before .before .before .stepped .ensures) (c .before .before .before .before .report-of .ensures) (c .before .anomaly .given .0 .0) (ap raisedOf (sym (c .before .anomaly .given .1)) ∙ c .before .before .before .raised .ensures)
 
 enum-told : tie.Need-enum-told Inv-loop μ-loop Inv-loop2 μ-loop2
 enum-told c = search needs
@@ -219,18 +203,14 @@ loop2-less-4 c = omega (arith, c .before .before .before .before .before .before
 
 loop2-again-4 : tie.Need-loop2-again-4 Inv-loop μ-loop Inv-loop2 μ-loop2
 loop2-again-4 c =
-    let start = c .before .before .before .before .before .before .before .before .before .before .before .before .before .before .before .before .before .before .before .before .before .before .before in
-    let a = start .args in
-    let v : Visit = visit (a .t1) (c .before .before .before .before .before .before .before .before .before .before .before .before .before .before .before .before .before .before .before .before .clamp .result) (a .id) (a .extended) (now (a .bytes)) (a .data-len) in
-    moves-quiet v (sound-of _ (start .good .0)) (c .before .before .before .before .before .before .before .before .before .before .before .before .before .before .before .loop .m) (c .before .before .before .before .before .before .before .before .before .before .before .before .before .loop2 .inv) (omega (arith, c .before .before .before .before .before .before .before .before .before .before .before .before .loop2-test .taken)) (c .before .before .before .before .before .stepped .result) (c .before .before .before .report-of .result) (eq-eqb _ _ (c .before .before .before .before .before .before .before .before .before .before .if2 .left)) (sym (c .before .before .before .before .before .before .before .before .is-typed .ensures) ∙ not-false _ (c .before .before .before .before .before .before .before .if3 .left)) (c .before .before .before .before .before .stepped .ensures) (c .before .before .before .report-of .ensures) (ap raisedOf (sym (c .enum-told .given .1)) ∙ c .before .before .raised .ensures)
+    let clamped = c .before .before .before .before .before .before .before .before .before .before .before .before .before .before .before .before .before .before .before .before in
+    moves-quiet (visited clamped) (columns clamped) (c .before .before .before .before .before .before .before .before .before .before .before .before .before .before .before .loop .m) (c .before .before .before .before .before .before .before .before .before .before .before .before .before .loop2 .inv) (omega (arith, c .before .before .before .before .before .before .before .before .before .before .before .before .loop2-test .taken)) (c .before .before .before .before .before .stepped .result) (c .before .before .before .report-of .result) (eq-eqb _ _ (c .before .before .before .before .before .before .before .before .before .before .if2 .left)) (sym (c .before .before .before .before .before .before .before .before .is-typed .ensures) ∙ not-false _ (c .before .before .before .before .before .before .before .if3 .left)) (c .before .before .before .before .before .stepped .ensures) (c .before .before .before .report-of .ensures) (ap raisedOf (sym (c .enum-told .given .1)) ∙ c .before .before .raised .ensures)
 
 returns : tie.Need-returns Inv-loop μ-loop Inv-loop2 μ-loop2
 returns c =
-    let start = c .before .before .before .before .before .before .before .before .before .before .before in
-    let a = start .args in
-    let v : Visit = visit (a .t1) (c .before .before .before .before .before .before .before .before .clamp .result) (a .id) (a .extended) (now (a .bytes)) (a .data-len) in
-    let number = search-ends v (sound-of _ (start .good .0)) (c .before .before .before .loop .inv) (omega (arith, c .before .before .loop-test .left)) (c .before .before .before .before .before .before .before .before .clamp .ensures) in
-    moving-ends v (sound-of _ (start .good .0)) (c .before .before .before .loop .m) (c .before .loop2 .inv) (omega (arith, c .loop2-test .left)) (c .before .before .before .before .before .before .before .before .clamp .ensures) number
+    let clamped = c .before .before .before .before .before .before .before .before in
+    let number = search-ends (visited clamped) (columns clamped) (c .before .before .before .loop .inv) (omega (arith, c .before .before .loop-test .left)) (clamped .clamp .ensures) in
+    moving-ends (visited clamped) (columns clamped) (c .before .before .before .loop .m) (c .before .loop2 .inv) (omega (arith, c .loop2-test .left)) (clamped .clamp .ensures) number
 
 pub process-spec : {M : Type 1} → statement M
 process-spec =

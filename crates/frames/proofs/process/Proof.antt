@@ -15,7 +15,7 @@ use Rattle.frames.specs.Parts.{raisedOf}
 use Rattle.frames.proofs.Answers.{room}
 use Rattle.frames.proofs.Rows.{Visit}
 use Rattle.frames.proofs.Search.{Searching, search-begins, search-named, search-other, search-ends}
-use Rattle.frames.proofs.Moves.{Moving, moving-begins, room-for-report, other-id, other-type, moves-quiet, moves-listed, moving-ends}
+use Rattle.frames.proofs.Moves.{Moving, Applied, moving-begins, room-for-report, other-id, other-type, moves-quiet, moves-listed, moving-ends}
 use Rattle.frames.proofs.process.Statement.{statement}
 use Rattle.frames.proofs.process.Tie as tie
 
@@ -41,6 +41,18 @@ visited c =
 
 columns : (c : tie.After-clamp Inv-loop μ-loop Inv-loop2 μ-loop2) → Sound (visited c .engine)
 columns c = sound-of _ (c .before .before .before .good .0)
+
+-- the row that both of the last answers are about
+applied : (c : tie.After-report-of Inv-loop μ-loop Inv-loop2 μ-loop2)
+    → Applied (visited (c .before .before .before .before .before .before .before .before .before .before .before .before .before .before .before .before .before)) (c .before .before .before .before .before .before .before .before .before .before .before .before .loop .m) (c .before .before .before .before .before .before .before .before .before .before .loop2 .engine) (c .before .before .before .before .before .before .before .before .before .before .loop2 .next) (c .before .before .stepped .result) (c .report-of .result)
+applied c =
+    let typed = c .before .before .before .before in
+    record {
+      has-id = eq-eqb _ _ (typed .before .before .before .if2 .left);
+      has-type = sym (typed .before .is-typed .ensures) ∙ not-false _ (typed .if3 .left);
+      is = c .before .before .stepped .ensures;
+      reported = c .report-of .ensures;
+    }
 
 -- there is a place for the row's report, and for the anomaly that was found
 report-fits : (c : tie.After-report-of Inv-loop μ-loop Inv-loop2 μ-loop2) → c .before .before .before .before .before .before .before .before .before .before .loop2 .result .«report_count» < 64
@@ -192,8 +204,10 @@ loop2-less-3 c = omega (arith, c .before .before .before .before .before .before
 
 loop2-again-3 : tie.Need-loop2-again-3 Inv-loop μ-loop Inv-loop2 μ-loop2
 loop2-again-3 c =
-    let clamped = c .before .before .before .before .before .before .before .before .before .before .before .before .before .before .before .before .before .before .before .before .before in
-    moves-listed (visited clamped) (columns clamped) (c .before .before .before .before .before .before .before .before .before .before .before .before .before .before .before .before .loop .m) (c .before .before .before .before .before .before .before .before .before .before .before .before .before .before .loop2 .inv) (omega (arith, c .before .before .before .before .before .before .before .before .before .before .before .before .before .loop2-test .taken)) (c .before .before .before .before .before .before .stepped .result) (c .before .before .before .before .report-of .result) (eq-eqb _ _ (c .before .before .before .before .before .before .before .before .before .before .before .if2 .left)) (sym (c .before .before .before .before .before .before .before .before .before .is-typed .ensures) ∙ not-false _ (c .before .before .before .before .before .before .before .before .if3 .left)) (c .before .before .before .before .before .before .stepped .ensures) (c .before .before .before .before .report-of .ensures) (c .before .anomaly .given .0 .0) (ap raisedOf (sym (c .before .anomaly .given .1)) ∙ c .before .before .before .raised .ensures)
+    let reported = c .before .before .before .before in
+    let turn = reported .before .before .before .before .before .before .before .before .before in
+    let clamped = turn .before .before .before .before .before .before .before .before in
+    moves-listed (visited clamped) (columns clamped) (turn .before .before .before .loop .m) (turn .before .loop2 .inv) (omega (arith, turn .loop2-test .taken)) (applied reported) (c .before .anomaly .given .0 .0) (ap raisedOf (sym (c .before .anomaly .given .1)) ∙ c .before .before .before .raised .ensures)
 
 enum-told : tie.Need-enum-told Inv-loop μ-loop Inv-loop2 μ-loop2
 enum-told c = search needs
@@ -203,8 +217,10 @@ loop2-less-4 c = omega (arith, c .before .before .before .before .before .before
 
 loop2-again-4 : tie.Need-loop2-again-4 Inv-loop μ-loop Inv-loop2 μ-loop2
 loop2-again-4 c =
-    let clamped = c .before .before .before .before .before .before .before .before .before .before .before .before .before .before .before .before .before .before .before .before in
-    moves-quiet (visited clamped) (columns clamped) (c .before .before .before .before .before .before .before .before .before .before .before .before .before .before .before .loop .m) (c .before .before .before .before .before .before .before .before .before .before .before .before .before .loop2 .inv) (omega (arith, c .before .before .before .before .before .before .before .before .before .before .before .before .loop2-test .taken)) (c .before .before .before .before .before .stepped .result) (c .before .before .before .report-of .result) (eq-eqb _ _ (c .before .before .before .before .before .before .before .before .before .before .if2 .left)) (sym (c .before .before .before .before .before .before .before .before .is-typed .ensures) ∙ not-false _ (c .before .before .before .before .before .before .before .if3 .left)) (c .before .before .before .before .before .stepped .ensures) (c .before .before .before .report-of .ensures) (ap raisedOf (sym (c .enum-told .given .1)) ∙ c .before .before .raised .ensures)
+    let reported = c .before .before .before in
+    let turn = reported .before .before .before .before .before .before .before .before .before in
+    let clamped = turn .before .before .before .before .before .before .before .before in
+    moves-quiet (visited clamped) (columns clamped) (turn .before .before .before .loop .m) (turn .before .loop2 .inv) (omega (arith, turn .loop2-test .taken)) (applied reported) (ap raisedOf (sym (c .enum-told .given .1)) ∙ c .before .before .raised .ensures)
 
 returns : tie.Need-returns Inv-loop μ-loop Inv-loop2 μ-loop2
 returns c =

@@ -3,7 +3,7 @@ use mathlib.Core.Path.{_≡_, refl, sym, _∙_, ap, subst}
 use mathlib.Core.Bool.{Bool, true, false, cond, not}
 use mathlib.Core.List.{List, [], _∷_}
 use mathlib.Core.Logic.{_⊎_, inl, inr}
-use Prim.Native.Nat.{ℕ, _+_, _-_, _^_, _<_, _≤_}
+use Prim.Native.Nat.{ℕ, _+_, _^_, _<_, _≤_}
 use native.Mathlib.Omega.{arith}
 use lib.ListN.{length, take, getD}
 use lib.Seq.{drop-cons}
@@ -24,7 +24,7 @@ use Rattle.log.specs.declared.lines.Rendered.{Rendered}
 use Rattle.log.specs.Lines.{renderedOf, bufferOf, Put, ascii}
 use Rattle.log.specs.Output.{createdBy, definedBy, removedBy, processedBy, startOf, dataOf, frameAt, Move, itemStep, stepOf, settledStep, requestStep, frameStep, goStep, stopStep, waitStep, lastNumber, goesOn, waiting}
 use Rattle.log.specs.Pieces.{Does, after, soundOf}
-use Rattle.log.proofs.Texts.{line-length, answer-length, lines-length, length-take-min, nothing}
+use Rattle.log.proofs.Texts.{line-length, answer-length, lines-length, length-take-min}
 use Rattle.log.proofs.Below.{few}
 
 -- a choice has what both sides have

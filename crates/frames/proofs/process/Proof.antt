@@ -2,14 +2,11 @@
 -- before `next` and reported them (`Moving`); each turn is a lemma of Search or Moves.
 -- Assumes nothing.
 use mathlib.Core.Path.{sym, ap, _∙_}
-use mathlib.Core.Bool.{Bool}
-use mathlib.Core.List.{List}
-use Prim.Native.Nat.{ℕ, _<_, _-_}
+use Prim.Native.Nat.{_<_, _-_}
 use native.Mathlib.Omega.{arith}
 use borrow.Author.Needs.{needs}
 use borrow.Author.Tests.{eq-eqb, ne-eqb, not-true, not-false}
 use denote.Ref.{now}
-use Rattle.table.specs.declared.SignalIdsEngine.{SignalIdsEngine}
 use Rattle.table.proofs.Columns.{Sound, sound-of}
 use Rattle.frames.specs.Parts.{raisedOf}
 use Rattle.frames.proofs.Answers.{room}

@@ -1,7 +1,7 @@
 -- What follows of the promises: a definition that passes the tests, the count of rows, the end of the slots, and what an answer says.
 -- Assumes nothing.
 use mathlib.Core.Path.{_≡_, refl, sym, ap, _∙_}
-use mathlib.Core.Bool.{Bool, true, false, _&&_, cond}
+use mathlib.Core.Bool.{Bool, true, false, cond}
 use mathlib.Core.List.{[], _∷_}
 use Prim.Native.Nat.{ℕ, _+_, _≤_}
 use native.Mathlib.Decide.{decLe}
@@ -10,6 +10,7 @@ use lib.Dec.{leb}
 use lib.Ieee.Scale.{finite}
 use lib.ListN.{length, take}
 use borrow.Author.Tests.{eq-eqb, leb-true}
+use Rattle.bits.proofs.Laws.{both-true}
 use Rattle.conversion.specs.declared.SignalDefinition.{SignalDefinition}
 use Rattle.table.specs.declared.Answer.{Answer}
 use Rattle.table.specs.declared.Answer.the-variants.{Slot, Done, Refused}
@@ -33,10 +34,6 @@ pub record Passing (d : SignalDefinition) : Type 0 where
   pub extended : d .«can_id» ≤ 0x1FFFFFFF
   pub multiplexor : d .«is_multiplexor» ≡ true → d .«bit_length» ≤ 16
   pub sign : d .signed ≡ true → 2 ≤ d .«bit_length»
-
-both-true : (a b : Bool) → (a && b) ≡ true → (a ≡ true) × (b ≡ true)
-both-true true b h = (refl, h)
-both-true false b h = let z : _≡_ {A = ℕ} 0 1 = cc in absurd (omega arith)
 
 low-id : (x : Bool) (n : ℕ) → n ≤ cond x 0x1FFFFFFF 0x7FF → n ≤ 0x1FFFFFFF
 low-id true n h = h

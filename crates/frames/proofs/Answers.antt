@@ -9,7 +9,8 @@ use lib.Dec.{ltb}
 use borrow.Author.Tests.{lt-ltb, ltb-true, ltb-false}
 use lib.ListN.{length, take, set, replicate}
 use Rattle.table.specs.Rows.{pad}
-use Rattle.table.proofs.Laws.{chosen, pad-nil, pushed, take-room, take-full, flat-append, flat-one}
+use Rattle.detector.proofs.Told.{chosen}
+use Rattle.table.proofs.Laws.{pad-nil, pushed, take-room, take-full, flat-append, flat-one}
 use Rattle.frames.specs.declared.Outcome.{Outcome}
 use Rattle.frames.specs.declared.Report.{Report}
 use Rattle.frames.specs.declared.SignalAnomaly.{SignalAnomaly}
@@ -28,7 +29,7 @@ blank-is a r p q = four (ap (replicate 8) p ∙ pad-nil 8 blankAnomaly) refl (ap
 
 -- where there is room, a report's anomaly is its outcome's
 pub raises : (r : Report) (k : ℕ) {o : Outcome} → k < 8 → r .outcome ≡ o → cond (ltb k 8) (flagged r) [] ≡ anomaly (r .slot) (outcomeMeans o)
-raises r k h e = chosen _ _ refl (lt-ltb k 8 h) ∙ ap (λ (q : Outcome). anomaly (r .slot) (outcomeMeans q)) e
+raises r k h e = chosen _ _ (lt-ltb k 8 h) ∙ ap (λ (q : Outcome). anomaly (r .slot) (outcomeMeans q)) e
 
 -- ---- a report has at most one anomaly
 flagged-more : (l : List Report) (r : Report) → flatMap flagged (l ++ (r ∷ [])) ≡ flatMap flagged l ++ flagged r

@@ -2,14 +2,14 @@
 -- Assumes nothing.
 use mathlib.Core.Path.{_≡_, refl, sym, ap, _∙_}
 use mathlib.Core.Bool.{Bool, true, false, cond}
-use mathlib.Core.List.{List, [], _∷_, _++_, map, append-nil}
+use mathlib.Core.List.{List, [], _∷_, _++_, map, map-append, append-nil}
 use Prim.Native.Nat.{ℕ, suc, _+_, _-_, _≤_, _<_}
 use native.Mathlib.Numerals.{add-one}
 use native.Mathlib.Omega.{arith}
 use lib.ListN.{length, getD, take, drop, set, length-append, length-map, take-append-drop}
 use lib.Seq.{length-take-le, drop-cons, set-at, getD-append-seam, append-snoc}
 use Rattle.table.specs.Rows.{keep}
-use Rattle.table.proofs.Laws.{map-append, take-more, keep-append}
+use Rattle.table.proofs.Laws.{take-more, keep-append}
 
 -- ---- how many pass a test
 module _ {ℓ} {A : Type ℓ} (p : A → Bool) where

@@ -14,7 +14,8 @@ use Rattle.table.specs.declared.Entry.{Entry}
 use Rattle.table.specs.declared.SignalIdsEngine.{SignalIdsEngine}
 use Rattle.table.specs.Rows.{keep}
 use Rattle.table.specs.Table.{rowsOf, idOf}
-use Rattle.table.proofs.Laws.{map-take, chosen, passed}
+use Rattle.detector.proofs.Told.{chosen, other}
+use Rattle.table.proofs.Laws.{map-take}
 use Rattle.table.proofs.Columns.{Sound, past, pastSignal, length-rows, row-is, ids-are}
 use Rattle.frames.specs.declared.Multiplexor.{Multiplexor}
 use Rattle.frames.specs.Frames.{same, sameKey, applies, selects, multiplexorOf, stepRow, nextOf}
@@ -54,7 +55,7 @@ module _ (id : ℕ) (x : Bool) (row : Entry) where
   both-same h k = ap (λ (b : Bool). cond b (same (row .signal .definition .«is_extended») x) false) h ∙ k
 
   pub not-selecting : eqb (row .id) id ≡ false → selects id x row ≡ false
-  not-selecting h = passed _ _ refl (not-named h)
+  not-selecting h = other _ _ (not-named h)
 
 module _ (id : ℕ) (x : Bool) (s : List ℕ) (len : ℕ) where
   -- a row that doesn't apply stays
@@ -65,8 +66,8 @@ module _ (id : ℕ) (x : Bool) (s : List ℕ) (len : ℕ) where
   absent row l h = go (eqb (row .id) id) refl
     where
       go : (b : Bool) → eqb (row .id) id ≡ b → (eqb (row .id) id ≡ false) × (tally (named id) l ≡ 0)
-      go true e = absurd (omega (arith, sym h ∙ tally-cons (named id) row l ∙ chosen (suc (tally (named id) l)) (tally (named id) l) refl e))
-      go false e = (e, sym (passed (suc (tally (named id) l)) (tally (named id) l) refl e) ∙ sym (tally-cons (named id) row l) ∙ h)
+      go true e = absurd (omega (arith, sym h ∙ tally-cons (named id) row l ∙ chosen (suc (tally (named id) l)) (tally (named id) l) e))
+      go false e = (e, sym (other (suc (tally (named id) l)) (tally (named id) l) e) ∙ sym (tally-cons (named id) row l) ∙ h)
 
   pub rows-stay : (m : Multiplexor) (l : List Entry) → tally (named id) l ≡ 0 → map (nextOf id x s len m) l ≡ l
   rows-stay m [] h = refl
@@ -84,7 +85,7 @@ module _ (id : ℕ) (x : Bool) (s : List ℕ) (len : ℕ) where
   none-selects [] r h = refl
   none-selects (row ∷ l) r h =
       let a = absent row l h in
-      passed _ _ refl (not-selecting id x row (a .0)) ∙ none-selects l r (a .1)
+      other _ _ (not-selecting id x row (a .0)) ∙ none-selects l r (a .1)
 
 -- ---- what two loops go over: the first n rows of an engine, and a frame by its identifier, type, bytes and data length
 pub record Visit : Type 0 where

@@ -10,7 +10,8 @@ use lib.ListN.{getD, take, drop, length-take, take-append-drop, drop-of-length-l
 use lib.Seq.{drop-cons}
 use Rattle.table.specs.declared.Entry.{Entry}
 use Rattle.table.specs.Table.{live}
-use Rattle.table.proofs.Laws.{length-keep, passed}
+use Rattle.detector.proofs.Told.{other}
+use Rattle.table.proofs.Laws.{length-keep}
 use Rattle.table.proofs.Columns.{Sound, past, live-is}
 use Rattle.frames.specs.declared.Multiplexor.{Multiplexor}
 use Rattle.frames.specs.declared.Multiplexor.the-variants.{Missing}
@@ -46,7 +47,7 @@ module _ (id : ℕ) (x : Bool) (s : List ℕ) (len : ℕ) (row : Entry) (l : Lis
       at false = refl
 
   pub mux-other : {m : Multiplexor} → eqb (row .id) id ≡ false → m ≡ multiplexorOf id x s len l → m ≡ multiplexorOf id x s len (row ∷ l)
-  mux-other h e = e ∙ sym (passed _ _ refl (not-selecting id x row h))
+  mux-other h e = e ∙ sym (other _ _ (not-selecting id x row h))
 
 -- ---- the loop: so many rows with the identifier stand before j, and the multiplexor of the rows from j on is known
 abbrev pub muxFrom : Visit → List Entry → Multiplexor

@@ -21,7 +21,8 @@ use Rattle.table.specs.declared.SignalIdsEngine.{SignalIdsEngine}
 use Rattle.table.specs.Rows.{keep, every}
 use Rattle.table.specs.Table.{joined, rowsOf, live, detectorOf, tableOf, withRows, fault}
 use Rattle.table.specs.Regular.{Proper, Regular}
-use Rattle.table.proofs.Laws.{chosen, passed, map-take}
+use Rattle.detector.proofs.Told.{chosen, other}
+use Rattle.table.proofs.Laws.{map-take}
 use Rattle.table.proofs.Columns.{Sound, detectors-are}
 use Rattle.table.proofs.Theorems.{passing}
 use Rattle.frames.specs.declared.CanFrame.{CanFrame}
@@ -125,7 +126,7 @@ pub applied-moves : (id : ℕ) (x : Bool) (s : List ℕ) (n : ℕ) (m : Multiple
     → signalOf s n (row .signal .definition) ≡ measured v
     → nextOf id x s n m row .detector ≡ updated (row .detector) v .detector
 applied-moves id x s n m row v a b h =
-    chosen (stepRow s n m row .detector) (row .detector) refl a
+    chosen (stepRow s n m row .detector) (row .detector) a
     ∙ ap (λ (t : Step). t .detector) (step-sampled s n m (row .signal .definition) (row .detector) b ∙ ap (sampled (row .detector)) h)
 
 -- ---- frames change detectors and nothing else
@@ -222,7 +223,7 @@ none-above id h next (row ∷ l) p = go (none-above id h next l (p .1)) (applies
     go rest true e =
         let k = key-is (row .id) (row .signal .definition .«is_extended») id false e in
         absurd (omega (arith, k .0, p .0 .id-is, passing (row .signal .definition) (p .0 .passes) .standard (k .1)))
-    go rest false e = passed _ _ refl e ∙ rest
+    go rest false e = other _ _ e ∙ rest
 
 pub raw-above : (e : SignalIdsEngine) → Regular (tableOf e) → (id : ℕ) → 0x7FF < id → (s : List ℕ) (n : ℕ) → reports id false s n (live e) ≡ []
 raw-above e g id h s n = ap (map (reportOf s n (multiplexorOf id false s n (live e)))) (none-above id h (e .«next_slot») (live e) (g .proper))

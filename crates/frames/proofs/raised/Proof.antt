@@ -1,15 +1,15 @@
 -- `frames::raised` meets its contract.
 -- Assumes nothing.
-use mathlib.Core.Path.{refl, sym, _∙_}
+use mathlib.Core.Path.{sym, _∙_}
 use borrow.Author.Tests.{le-ltb}
-use Rattle.table.proofs.Laws.{chosen, passed}
+use Rattle.detector.proofs.Told.{chosen, other}
 use Rattle.frames.proofs.Answers.{raises}
 use borrow.Author.Needs.{needs}
 use Rattle.frames.proofs.raised.Statement.{statement}
 use Rattle.frames.proofs.raised.Tie as tie
 
 returns : tie.Need-returns
-returns c = sym (passed _ _ refl (le-ltb _ _ (c .if1 .taken)))
+returns c = sym (other _ _ (le-ltb _ _ (c .if1 .taken)))
 
 enum-told : tie.Need-enum-told
 enum-told c = search needs
@@ -39,10 +39,10 @@ returns-5 : tie.Need-returns-5
 returns-5 c = sym (raises (c .before .before .before .args .report) (c .before .before .before .args .listed) (c .before .before .if1 .left) (c .enum-told4 .given .1))
 
 returns-6 : tie.Need-returns-6
-returns-6 c = sym (raises (c .before .before .before .before .before .args .report) (c .before .before .before .before .before .args .listed) (c .before .before .before .before .if1 .left) (c .before .before .outcome .given .1) ∙ chosen _ _ refl (c .if2 .taken))
+returns-6 c = sym (raises (c .before .before .before .before .before .args .report) (c .before .before .before .before .before .args .listed) (c .before .before .before .before .if1 .left) (c .before .before .outcome .given .1) ∙ chosen _ _ (c .if2 .taken))
 
 returns-7 : tie.Need-returns-7
-returns-7 c = sym (raises (c .before .before .before .before .before .args .report) (c .before .before .before .before .before .args .listed) (c .before .before .before .before .if1 .left) (c .before .before .outcome .given .1) ∙ passed _ _ refl (c .if2 .left))
+returns-7 c = sym (raises (c .before .before .before .before .before .args .report) (c .before .before .before .before .before .args .listed) (c .before .before .before .before .if1 .left) (c .before .before .outcome .given .1) ∙ other _ _ (c .if2 .left))
 
 pub raised-spec : {M : Type 1} → statement M
 raised-spec =

@@ -3,9 +3,10 @@ use mathlib.Core.Path.{_≡_, refl, sym, _∙_, ap, subst}
 use mathlib.Core.Bool.{Bool, true, false, cond, not}
 use mathlib.Core.List.{List, [], _∷_}
 use mathlib.Core.Logic.{_⊎_, inl, inr}
-use Prim.Native.Nat.{ℕ, _+_, _^_, _<_, _≤_}
+use Prim.Native.Nat.{ℕ, _+_, _^_, _<_, _≤_, min}
 use native.Mathlib.Omega.{arith}
-use lib.ListN.{length, take, getD}
+use native.Mathlib.Decide.{decLe}
+use lib.ListN.{length, take, getD, length-take}
 use lib.Seq.{drop-cons}
 use lib.Dec.{ltb, leb, eqb, T}
 use borrow.Author.Tests.{ltb-false, eqb-false}
@@ -24,7 +25,7 @@ use Rattle.log.specs.declared.lines.Rendered.{Rendered}
 use Rattle.log.specs.Lines.{renderedOf, bufferOf, Put, ascii}
 use Rattle.log.specs.Output.{createdBy, definedBy, removedBy, processedBy, startOf, dataOf, frameAt, Move, itemStep, stepOf, settledStep, requestStep, frameStep, goStep, stopStep, waitStep, lastNumber, goesOn, waiting}
 use Rattle.log.specs.Pieces.{Does, after, soundOf}
-use Rattle.log.proofs.Texts.{line-length, answer-length, lines-length, length-take-min}
+use Rattle.log.proofs.Texts.{line-length, answer-length, lines-length}
 use Rattle.log.proofs.Below.{few}
 
 -- a choice has what both sides have
@@ -182,81 +183,61 @@ going ended log s h = go (step-kinds ended log s)
     go (inr (inl q)) = absurd (subst (λ (b : Bool). T (not b)) (sym (ap goesOn q) ∙ h) tt)
     go (inr (inr w)) = (w .1, w .2)
 
--- ---- the number of sound records fits its type
+-- ---- what a step takes, prints and counts
 
-settled-count : (log : Log) (e : SignalIdsEngine) (a : Answer) → log .count < 4294967295 → settledStep log e a .log .count < 2 ^ 32
-settled-count log e Answer.Done h = omega arith
-settled-count log e (Answer.Slot k) h = omega arith
-settled-count log e (Answer.Refused k) h = omega arith
+record Bounds (log : Log) (n : ℕ) (m : Move) : Type 0 where
+  pub takes : m .used ≤ n
+  pub prints : length (m .text) ≤ 512
+  pub counts : m .log .count ≤ log .count + min 1 n
 
-request-count : (log : Log) (q : Request) → log .count < 4294967295 → requestStep log q .log .count < 2 ^ 32
-request-count log (Request.Settings a t) h = settled-count log (createdBy a t .engine) (createdBy a t .answer) h
-request-count log (Request.Define d) h = omega arith
-request-count log (Request.Remove k) h = omega arith
+sound-bounds : (log : Log) (n : ℕ) (text : List ℕ) (e : SignalIdsEngine) → 1 ≤ n → length text ≤ 512 → Bounds log n (goStep log n text e)
+sound-bounds log n text e h l = record { takes = omega arith; prints = l; counts = omega arith }
 
-item-count : (ended : Bool) (log : Log) (s : List ℕ) (i : Item) → log .count < 2 ^ 32 → i ≡ itemOf (log .count) s → itemStep ended log s i .log .count < 2 ^ 32
-item-count true log s Item.Wait h q = h
-item-count false log s Item.Wait h q = h
-item-count ended log s (Item.Stop k) h q = h
-item-count ended log s (Item.Call r) h q = request-count log r (counts-on (log .count) s (Item.Call r) (Item.Call r) q refl h (asks r))
-item-count ended log s (Item.Frame i x n) h q =
-    let l : log .count < 4294967295 = counts-on (log .count) s (Item.Frame i x n) (Item.Frame i x n) q refl h (omega arith) in
-    omega arith
+stop-bounds : (log : Log) (n k : ℕ) → Bounds log n (stopStep log k)
+stop-bounds log n k = record { takes = omega arith; prints = omega (arith, line-length (ascii "end ") (log .count) (ascii " ") k); counts = omega arith }
 
-pub step-count : (ended : Bool) (log : Log) (s : List ℕ) → log .count < 2 ^ 32 → stepOf ended log s .log .count < 2 ^ 32
-unfolding stepOf
-step-count ended log s h = item-count ended log s (itemOf (log .count) s) h refl
+settled-bounds : (log : Log) (e : SignalIdsEngine) (a : Answer) → Bounds log 10 (settledStep log e a)
+settled-bounds log e Answer.Done = sound-bounds log 10 [] e (omega arith) (omega arith)
+settled-bounds log e (Answer.Slot k) = sound-bounds log 10 [] e (omega arith) (omega arith)
+settled-bounds log e (Answer.Refused k) = stop-bounds log 10 k
 
--- ---- how long a text is: the room suffices
+request-bounds : (log : Log) (q : Request) → Bounds log (asked q) (requestStep log q)
+request-bounds log (Request.Settings a t) = settled-bounds log (createdBy a t .engine) (createdBy a t .answer)
+request-bounds log (Request.Define d) = sound-bounds log 24 _ _ (omega arith) (omega (arith, answer-length (ascii "D ") (log .count + 1) (definedBy (log .engine) d .answer)))
+request-bounds log (Request.Remove k) = sound-bounds log 4 _ _ (omega arith) (omega (arith, answer-length (ascii "R ") (log .count + 1) (removedBy (log .engine) k .answer)))
 
-settled-length : (log : Log) (e : SignalIdsEngine) (a : Answer) → length (settledStep log e a .text) ≤ 512
-settled-length log e Answer.Done = omega arith
-settled-length log e (Answer.Slot k) = omega arith
-settled-length log e (Answer.Refused k) = omega (arith, line-length (ascii "end ") (log .count) (ascii " ") k)
-
-request-length : (log : Log) (q : Request) → length (requestStep log q .text) ≤ 512
-request-length log (Request.Settings a t) = settled-length log (createdBy a t .engine) (createdBy a t .answer)
-request-length log (Request.Define d) = omega (arith, answer-length (ascii "D ") (log .count + 1) (definedBy (log .engine) d .answer))
-request-length log (Request.Remove k) = omega (arith, answer-length (ascii "R ") (log .count + 1) (removedBy (log .engine) k .answer))
-
-frame-length : (log : Log) (f : CanFrame) → length (frameStep log f .text) ≤ 512
-frame-length log f =
+frame-bounds : (log : Log) (f : CanFrame) → Bounds log 16 (frameStep log f)
+frame-bounds log f =
     let r = processedBy (log .engine) f in
     let n = r .result .«anomaly_count» in
-    omega (arith, lines-length (log .count + 1) (take n (r .result .anomalies)), length-take-min n (r .result .anomalies), few (log .engine) f)
+    sound-bounds log 16 _ _ (omega arith) (omega (arith, lines-length (log .count + 1) (take n (r .result .anomalies)), length-take n (r .result .anomalies), few (log .engine) f))
 
-item-length : (ended : Bool) (log : Log) (s : List ℕ) (i : Item) → length (itemStep ended log s i .text) ≤ 512
-item-length true log s Item.Wait = omega (arith, line-length (ascii "end ") (log .count) (ascii " ") (lastNumber (length s)))
-item-length false log s Item.Wait = omega arith
-item-length ended log s (Item.Call q) = request-length log q
-item-length ended log s (Item.Frame i x n) = frame-length log (frameAt i x n s)
-item-length ended log s (Item.Stop k) = omega (arith, line-length (ascii "end ") (log .count) (ascii " ") k)
+item-bounds : (ended : Bool) (log : Log) (s : List ℕ) (i : Item) → Bounds log (taken i) (itemStep ended log s i)
+item-bounds true log s Item.Wait = stop-bounds log 0 (lastNumber (length s))
+item-bounds false log s Item.Wait = record { takes = omega arith; prints = omega arith; counts = omega arith }
+item-bounds ended log s (Item.Call q) = request-bounds log q
+item-bounds ended log s (Item.Frame i x n) = frame-bounds log (frameAt i x n s)
+item-bounds ended log s (Item.Stop k) = stop-bounds log 0 k
 
-pub step-length : (ended : Bool) (log : Log) (s : List ℕ) → length (stepOf ended log s .text) ≤ 512
+step-bounds : (ended : Bool) (log : Log) (s : List ℕ) → Bounds log (taken (itemOf (log .count) s)) (stepOf ended log s)
 unfolding stepOf
-step-length ended log s = item-length ended log s (itemOf (log .count) s)
+step-bounds ended log s = item-bounds ended log s (itemOf (log .count) s)
+
+-- the room suffices for its text
+pub step-length : (ended : Bool) (log : Log) (s : List ℕ) → length (stepOf ended log s .text) ≤ 512
+step-length ended log s = step-bounds ended log s .prints
 
 -- no step takes more bytes than there are
 pub step-used : (ended : Bool) (log : Log) (s : List ℕ) → stepOf ended log s .used ≤ length s
-unfolding stepOf
-step-used ended log s = omega (arith, item-used ended log s (itemOf (log .count) s), item-taken (log .count) s)
+step-used ended log s = omega (arith, step-bounds ended log s .takes, item-taken (log .count) s)
+
+-- the number of sound records fits its type
+pub step-count : (ended : Bool) (log : Log) (s : List ℕ) → log .count < 2 ^ 32 → stepOf ended log s .log .count < 2 ^ 32
+step-count ended log s h = go (decLe 1 (taken (itemOf (log .count) s)))
   where
-    settled-used : (log : Log) (e : SignalIdsEngine) (a : Answer) → settledStep log e a .used ≤ 10
-    settled-used log e Answer.Done = omega arith
-    settled-used log e (Answer.Slot k) = omega arith
-    settled-used log e (Answer.Refused k) = omega arith
-
-    request-used : (log : Log) (q : Request) → requestStep log q .used ≤ asked q
-    request-used log (Request.Settings a t) = settled-used log (createdBy a t .engine) (createdBy a t .answer)
-    request-used log (Request.Define d) = omega arith
-    request-used log (Request.Remove k) = omega arith
-
-    item-used : (ended : Bool) (log : Log) (s : List ℕ) (i : Item) → itemStep ended log s i .used ≤ taken i
-    item-used true log s Item.Wait = omega arith
-    item-used false log s Item.Wait = omega arith
-    item-used ended log s (Item.Call q) = request-used log q
-    item-used ended log s (Item.Frame i x n) = omega arith
-    item-used ended log s (Item.Stop k) = omega arith
+    go : Dec (1 ≤ taken (itemOf (log .count) s)) → stepOf ended log s .log .count < 2 ^ 32
+    go (yes k) = omega (arith, step-bounds ended log s .counts, counts-on (log .count) s (itemOf (log .count) s) (itemOf (log .count) s) refl refl h k)
+    go (no k) = omega (arith, step-bounds ended log s .counts, k)
 
 -- ---- each promise leaves one answer, and `advance`'s one buffer
 

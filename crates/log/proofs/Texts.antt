@@ -7,7 +7,7 @@ use native.Mathlib.Nat.{add-zero, one-le-pow, pow-le-pow-right}
 use native.Mathlib.Numerals.{add-one}
 use native.Mathlib.Omega.{arith}
 use native.Mathlib.Decide.{decLt}
-use lib.ListN.{length, take, set, getD, length-append, length-take}
+use lib.ListN.{length, take, set, getD, length-append}
 use lib.Seq.{sets, take-suc, take-all, length-take-le}
 use lib.Dec.{ltb}
 use borrow.Author.Tests.{lt-ltb, le-ltb}
@@ -128,9 +128,6 @@ lines-snoc n (y ∷ xs) x = ap (λ (t : List ℕ). anomalyLine n y ++ t) (lines-
 -- a turn of the loop over the anomalies
 pub next-line : (n : ℕ) (l : List SignalAnomaly) (z : SignalAnomaly) (j : ℕ) → j < length l → anomalyLines n (take j l) ++ anomalyLine n (getD l j z) ≡ anomalyLines n (take (j + 1) l)
 next-line n l z j h = rw (add-one, take-suc l j z h) (sym (lines-snoc n (take j l) (getD l j z)))
-
-pub length-take-min : {A : Type 0} (j : ℕ) (l : List A) → length (take j l) ≤ j
-length-take-min j l = omega (arith, length-take j l)
 
 -- ---- `render`
 

@@ -1,6 +1,6 @@
 -- Where a read of the input ended never shows: `seam` for one call, `any-cutting` for any run of them. Assumes nothing.
 use mathlib.Core.Path.{_≡_, refl, sym, _∙_, ap}
-use mathlib.Core.Bool.{Bool, true, false, cond}
+use mathlib.Core.Bool.{Bool, true, false, cond, true≢false}
 use mathlib.Core.List.{List, [], _∷_, _++_, append-assoc, append-nil}
 use mathlib.Core.Logic.{_⊎_, inl, inr}
 use Prim.Native.Nat.{ℕ, zero, suc, _+_, _-_, _≤_}
@@ -10,14 +10,11 @@ use lib.Seq.{drop-drop, drop-append-le, take-append-le}
 use lib.Dec.{ltb, eqb}
 use borrow.Author.Tests.{le-ltb, ltb-false, ne-eqb, eqb-true, eqb-false}
 use Rattle.log.specs.declared.decode.Mark.{Mark}
-use Rattle.table.specs.declared.SignalIdsEngine.{SignalIdsEngine}
-use Rattle.table.specs.declared.Answer.{Answer}
-use Rattle.log.specs.declared.decode.Request.{Request}
 use Rattle.log.specs.declared.decode.Item.{Item}
 use Rattle.log.specs.declared.stream.Log.{Log}
 use Rattle.log.specs.declared.stream.Status.{Status}
 use Rattle.log.specs.Records.{itemOf, marked, markOf, sizeOf}
-use Rattle.log.specs.Output.{createdBy, settledStep, Move, stepOf, itemStep, frameStep, frameAt, dataOf, goesOn, outputFrom, output, startOf, waiting}
+use Rattle.log.specs.Output.{Move, stepOf, itemStep, frameStep, frameAt, dataOf, goesOn, outputFrom, output, startOf, waiting}
 use Rattle.log.specs.Pieces.{runOn, advanceOf, fullMove, behind, isEnded, left, concat, Calls, read, call, last}
 use Rattle.log.proofs.Front.{placed}
 use Rattle.log.proofs.Steps.{choose, going, step-kinds, Kinds, item-taken, taken}
@@ -103,24 +100,6 @@ step-stable false log s t h = go (stable (log .count) s t)
         cond (inl w) = inl w
         cond (inr w) = inr (ap (itemStep true log (s ++ t)) q ∙ w)
 
--- at the end of the input no step waits
-never-waits : (log : Log) (s : List ℕ) → stepOf true log s ≡ waiting log → ⊥
-unfolding stepOf
-never-waits log s = go (itemOf (log .count) s)
-  where
-    sets-out : (e : SignalIdsEngine) (a : Answer) → settledStep log e a ≡ waiting log → ⊥
-    sets-out e Answer.Done q = let z : _≡_ {A = ℕ} 0 1 = cc (ap (λ (m : Move). m .status) q) in omega arith
-    sets-out e (Answer.Slot k) q = let z : _≡_ {A = ℕ} 0 1 = cc (ap (λ (m : Move). m .status) q) in omega arith
-    sets-out e (Answer.Refused k) q = let z : _≡_ {A = ℕ} 0 1 = cc (ap (λ (m : Move). m .status) q) in omega arith
-
-    go : (i : Item) → itemStep true log s i ≡ waiting log → ⊥
-    go Item.Wait q = let z : _≡_ {A = ℕ} 0 1 = cc (ap (λ (m : Move). m .status) q) in omega arith
-    go (Item.Stop k) q = let z : _≡_ {A = ℕ} 0 1 = cc (ap (λ (m : Move). m .status) q) in omega arith
-    go (Item.Call (Request.Settings a t)) q = sets-out (createdBy a t .engine) (createdBy a t .answer) q
-    go (Item.Call (Request.Define d)) q = let z : _≡_ {A = ℕ} 0 1 = cc (ap (λ (m : Move). m .status) q) in omega arith
-    go (Item.Call (Request.Remove k)) q = let z : _≡_ {A = ℕ} 0 1 = cc (ap (λ (m : Move). m .status) q) in omega arith
-    go (Item.Frame i x n) q = let z : _≡_ {A = ℕ} 0 1 = cc (ap (λ (m : Move). m .status) q) in omega arith
-
 -- ---- one call
 
 -- what a move printed, and what is still to be printed behind it
@@ -155,10 +134,10 @@ waits log s t m q = rw q refl
 stepped : (e : Bool) (log : Log) (s t : List ℕ) (n : Move)
     → whole n (drop (stepOf e log s .used) s) t ≡ outputFrom (stepOf e log s .log) (drop (stepOf e log s .used) s ++ t)
     → (stepOf e log s ≡ waiting log) ⊎ (stepOf true log (s ++ t) ≡ stepOf e log s)
-    → (stepOf e log s ≡ waiting log) ⊎ ((stepOf e log s .status ≡ Status.Ended) ⊎ ((stepOf e log s .status ≡ Status.Going) × (1 ≤ stepOf e log s .used) × (stepOf e log s .used ≤ length s)))
+    → Kinds e log (stepOf e log s)
     → whole (cond (goesOn (stepOf e log s .status)) (behind (stepOf e log s) n) (stepOf e log s)) s t ≡ outputFrom log (s ++ t)
 stepped e log s t n ih (inl w) k = rw (ap (λ (m : Move). goesOn (m .status)) w) (waits log s t (stepOf e log s) w)
-stepped e log s t n ih (inr q) (inl w) = rw (ap (λ (m : Move). goesOn (m .status)) w) (waits log s t (stepOf e log s) w)
+stepped e log s t n ih (inr q) (inl w) = rw (ap (λ (m : Move). goesOn (m .status)) (w .0)) (waits log s t (stepOf e log s) (w .0))
 stepped e log s t n ih (inr q) (inr (inl d)) = rw (ap goesOn d) (final e log s t q d)
 stepped e log s t n ih (inr q) (inr (inr g)) = rw (ap goesOn (g .0)) (more e log s t n q (ap goesOn (g .0)) ih)
 
@@ -223,8 +202,8 @@ never-going room e log s = go (suc (length s)) room log s
 pub moves-on : (room : ℕ) (log : Log) (s : List ℕ) → 512 ≤ room → (advanceOf room true log s .status ≡ Status.Ended) ⊎ (1 ≤ advanceOf room true log s .used)
 moves-on room log s h = go (step-kinds true log s)
   where
-    go : Kinds log s (stepOf true log s) → (advanceOf room true log s .status ≡ Status.Ended) ⊎ (1 ≤ advanceOf room true log s .used)
-    go (inl w) = absurd (never-waits log s w)
+    go : Kinds true log (stepOf true log s) → (advanceOf room true log s .status ≡ Status.Ended) ⊎ (1 ≤ advanceOf room true log s .used)
+    go (inl w) = absurd (true≢false (w .1))
     go (inr (inl d)) = inl (ap (λ (n : Move). n .status) (on-last room true log s h (ap goesOn d)) ∙ d)
     go (inr (inr g)) =
         let n = advanceOf (room - length (stepOf true log s .text)) true (stepOf true log s .log) (drop (stepOf true log s .used) s) in

@@ -1,6 +1,6 @@
 -- One record: how many bytes it takes, and how much it prints. What `advance` promises leaves one answer. Assumes nothing.
 use mathlib.Core.Path.{_≡_, refl, sym, _∙_, ap, subst}
-use mathlib.Core.Bool.{Bool, true, false, cond, not}
+use mathlib.Core.Bool.{Bool, true, false, cond, true≢false}
 use mathlib.Core.List.{List, [], _∷_}
 use mathlib.Core.Logic.{_⊎_, inl, inr}
 use Prim.Native.Nat.{ℕ, _+_, _^_, _<_, _≤_, min}
@@ -8,7 +8,7 @@ use native.Mathlib.Omega.{arith}
 use native.Mathlib.Decide.{decLe}
 use lib.ListN.{length, take, getD, length-take}
 use lib.Seq.{drop-cons}
-use lib.Dec.{ltb, leb, eqb, T}
+use lib.Dec.{ltb, leb, eqb}
 use borrow.Author.Tests.{ltb-false, eqb-false}
 use Rattle.table.specs.declared.SignalIdsEngine.{SignalIdsEngine}
 use Rattle.table.specs.declared.Answer.{Answer}
@@ -148,80 +148,53 @@ sounds {d} {e} {at} {n} {end} log {text} {g} {r} q p =
 pub at-end : (used : ℕ) (log : Log) (ended : Bool) (left k : ℕ) → ended ≡ true → k ≡ lastNumber left → after used (stopStep log k) ≡ after used (waitStep ended log left)
 at-end used log ended left k p q = rw (p, q) refl
 
--- ---- what a step may be: it waits, or it is the last, or it takes bytes that are there
+-- ---- what a step may be: it waits, which it does only before the input's end, or it is the last, or it takes bytes
+abbrev pub Kinds : Bool → Log → Move → Type 0
+Kinds ended log m = ((m ≡ waiting log) × (ended ≡ false)) ⊎ ((m .status ≡ Status.Ended) ⊎ ((m .status ≡ Status.Going) × (1 ≤ m .used)))
 
-abbrev pub Kinds : Log → List ℕ → Move → Type 0
-Kinds log s m = (m ≡ waiting log) ⊎ ((m .status ≡ Status.Ended) ⊎ ((m .status ≡ Status.Going) × (1 ≤ m .used) × (m .used ≤ length s)))
-
-settled-kinds : (log : Log) (s : List ℕ) (e : SignalIdsEngine) (a : Answer) → 10 ≤ length s → Kinds log s (settledStep log e a)
-settled-kinds log s e Answer.Done h = inr (inr (refl, omega arith, h))
-settled-kinds log s e (Answer.Slot k) h = inr (inr (refl, omega arith, h))
-settled-kinds log s e (Answer.Refused k) h = inr (inl refl)
-
-request-kinds : (log : Log) (s : List ℕ) (q : Request) → asked q ≤ length s → Kinds log s (requestStep log q)
-request-kinds log s (Request.Settings a t) h = settled-kinds log s (createdBy a t .engine) (createdBy a t .answer) h
-request-kinds log s (Request.Define d) h = inr (inr (refl, omega arith, h))
-request-kinds log s (Request.Remove k) h = inr (inr (refl, omega arith, h))
-
-item-kinds : (ended : Bool) (log : Log) (s : List ℕ) (i : Item) → taken i ≤ length s → Kinds log s (itemStep ended log s i)
-item-kinds true log s Item.Wait h = inr (inl refl)
-item-kinds false log s Item.Wait h = inl refl
-item-kinds ended log s (Item.Call q) h = request-kinds log s q h
-item-kinds ended log s (Item.Frame i x n) h = inr (inr (refl, omega arith, h))
-item-kinds ended log s (Item.Stop k) h = inr (inl refl)
-
-pub step-kinds : (ended : Bool) (log : Log) (s : List ℕ) → Kinds log s (stepOf ended log s)
-unfolding stepOf
-step-kinds ended log s = item-kinds ended log s (itemOf (log .count) s) (item-taken (log .count) s)
-
--- a step that goes on takes bytes that are there
-pub going : (ended : Bool) (log : Log) (s : List ℕ) → goesOn (stepOf ended log s .status) ≡ true → (1 ≤ stepOf ended log s .used) × (stepOf ended log s .used ≤ length s)
-going ended log s h = go (step-kinds ended log s)
-  where
-    go : Kinds log s (stepOf ended log s) → (1 ≤ stepOf ended log s .used) × (stepOf ended log s .used ≤ length s)
-    go (inl q) = absurd (subst (λ (b : Bool). T (not b)) (sym (ap (λ (m : Move). goesOn (m .status)) q) ∙ h) tt)
-    go (inr (inl q)) = absurd (subst (λ (b : Bool). T (not b)) (sym (ap goesOn q) ∙ h) tt)
-    go (inr (inr w)) = (w .1, w .2)
-
--- ---- what a step takes, prints and counts
-
-record Bounds (log : Log) (n : ℕ) (m : Move) : Type 0 where
+-- and what it takes, prints and counts, of an item of n bytes
+record Bounds (ended : Bool) (log : Log) (n : ℕ) (m : Move) : Type 0 where
+  pub kind : Kinds ended log m
   pub takes : m .used ≤ n
   pub prints : length (m .text) ≤ 512
   pub counts : m .log .count ≤ log .count + min 1 n
 
-sound-bounds : (log : Log) (n : ℕ) (text : List ℕ) (e : SignalIdsEngine) → 1 ≤ n → length text ≤ 512 → Bounds log n (goStep log n text e)
-sound-bounds log n text e h l = record { takes = omega arith; prints = l; counts = omega arith }
+module _ (ended : Bool) (log : Log) where
+  sound-bounds : (n : ℕ) (text : List ℕ) (e : SignalIdsEngine) → 1 ≤ n → length text ≤ 512 → Bounds ended log n (goStep log n text e)
+  sound-bounds n text e h l = record { kind = inr (inr (refl, h)); takes = omega arith; prints = l; counts = omega arith }
 
-stop-bounds : (log : Log) (n k : ℕ) → Bounds log n (stopStep log k)
-stop-bounds log n k = record { takes = omega arith; prints = omega (arith, line-length (ascii "end ") (log .count) (ascii " ") k); counts = omega arith }
+  stop-bounds : (n k : ℕ) → Bounds ended log n (stopStep log k)
+  stop-bounds n k = record { kind = inr (inl refl); takes = omega arith; prints = omega (arith, line-length (ascii "end ") (log .count) (ascii " ") k); counts = omega arith }
 
-settled-bounds : (log : Log) (e : SignalIdsEngine) (a : Answer) → Bounds log 10 (settledStep log e a)
-settled-bounds log e Answer.Done = sound-bounds log 10 [] e (omega arith) (omega arith)
-settled-bounds log e (Answer.Slot k) = sound-bounds log 10 [] e (omega arith) (omega arith)
-settled-bounds log e (Answer.Refused k) = stop-bounds log 10 k
+  settled-bounds : (e : SignalIdsEngine) (a : Answer) → Bounds ended log 10 (settledStep log e a)
+  settled-bounds e Answer.Done = sound-bounds 10 [] e (omega arith) (omega arith)
+  settled-bounds e (Answer.Slot k) = sound-bounds 10 [] e (omega arith) (omega arith)
+  settled-bounds e (Answer.Refused k) = stop-bounds 10 k
 
-request-bounds : (log : Log) (q : Request) → Bounds log (asked q) (requestStep log q)
-request-bounds log (Request.Settings a t) = settled-bounds log (createdBy a t .engine) (createdBy a t .answer)
-request-bounds log (Request.Define d) = sound-bounds log 24 _ _ (omega arith) (omega (arith, answer-length (ascii "D ") (log .count + 1) (definedBy (log .engine) d .answer)))
-request-bounds log (Request.Remove k) = sound-bounds log 4 _ _ (omega arith) (omega (arith, answer-length (ascii "R ") (log .count + 1) (removedBy (log .engine) k .answer)))
+  request-bounds : (q : Request) → Bounds ended log (asked q) (requestStep log q)
+  request-bounds (Request.Settings a t) = settled-bounds (createdBy a t .engine) (createdBy a t .answer)
+  request-bounds (Request.Define d) = sound-bounds 24 _ _ (omega arith) (omega (arith, answer-length (ascii "D ") (log .count + 1) (definedBy (log .engine) d .answer)))
+  request-bounds (Request.Remove k) = sound-bounds 4 _ _ (omega arith) (omega (arith, answer-length (ascii "R ") (log .count + 1) (removedBy (log .engine) k .answer)))
 
-frame-bounds : (log : Log) (f : CanFrame) → Bounds log 16 (frameStep log f)
-frame-bounds log f =
-    let r = processedBy (log .engine) f in
-    let n = r .result .«anomaly_count» in
-    sound-bounds log 16 _ _ (omega arith) (omega (arith, lines-length (log .count + 1) (take n (r .result .anomalies)), length-take n (r .result .anomalies), few (log .engine) f))
+  frame-bounds : (f : CanFrame) → Bounds ended log 16 (frameStep log f)
+  frame-bounds f =
+      let r = processedBy (log .engine) f in
+      let n = r .result .«anomaly_count» in
+      sound-bounds 16 _ _ (omega arith) (omega (arith, lines-length (log .count + 1) (take n (r .result .anomalies)), length-take n (r .result .anomalies), few (log .engine) f))
 
-item-bounds : (ended : Bool) (log : Log) (s : List ℕ) (i : Item) → Bounds log (taken i) (itemStep ended log s i)
-item-bounds true log s Item.Wait = stop-bounds log 0 (lastNumber (length s))
-item-bounds false log s Item.Wait = record { takes = omega arith; prints = omega arith; counts = omega arith }
-item-bounds ended log s (Item.Call q) = request-bounds log q
-item-bounds ended log s (Item.Frame i x n) = frame-bounds log (frameAt i x n s)
-item-bounds ended log s (Item.Stop k) = stop-bounds log 0 k
+item-bounds : (ended : Bool) (log : Log) (s : List ℕ) (i : Item) → Bounds ended log (taken i) (itemStep ended log s i)
+item-bounds true log s Item.Wait = stop-bounds true log 0 (lastNumber (length s))
+item-bounds false log s Item.Wait = record { kind = inl (refl, refl); takes = omega arith; prints = omega arith; counts = omega arith }
+item-bounds ended log s (Item.Call q) = request-bounds ended log q
+item-bounds ended log s (Item.Frame i x n) = frame-bounds ended log (frameAt i x n s)
+item-bounds ended log s (Item.Stop k) = stop-bounds ended log 0 k
 
-step-bounds : (ended : Bool) (log : Log) (s : List ℕ) → Bounds log (taken (itemOf (log .count) s)) (stepOf ended log s)
+step-bounds : (ended : Bool) (log : Log) (s : List ℕ) → Bounds ended log (taken (itemOf (log .count) s)) (stepOf ended log s)
 unfolding stepOf
 step-bounds ended log s = item-bounds ended log s (itemOf (log .count) s)
+
+pub step-kinds : (ended : Bool) (log : Log) (s : List ℕ) → Kinds ended log (stepOf ended log s)
+step-kinds ended log s = step-bounds ended log s .kind
 
 -- the room suffices for its text
 pub step-length : (ended : Bool) (log : Log) (s : List ℕ) → length (stepOf ended log s .text) ≤ 512
@@ -230,6 +203,15 @@ step-length ended log s = step-bounds ended log s .prints
 -- no step takes more bytes than there are
 pub step-used : (ended : Bool) (log : Log) (s : List ℕ) → stepOf ended log s .used ≤ length s
 step-used ended log s = omega (arith, step-bounds ended log s .takes, item-taken (log .count) s)
+
+-- a step that goes on takes bytes that are there
+pub going : (ended : Bool) (log : Log) (s : List ℕ) → goesOn (stepOf ended log s .status) ≡ true → (1 ≤ stepOf ended log s .used) × (stepOf ended log s .used ≤ length s)
+going ended log s h = (go (step-kinds ended log s), step-used ended log s)
+  where
+    go : Kinds ended log (stepOf ended log s) → 1 ≤ stepOf ended log s .used
+    go (inl q) = absurd (true≢false (sym h ∙ ap (λ (m : Move). goesOn (m .status)) (q .0)))
+    go (inr (inl q)) = absurd (true≢false (sym h ∙ ap goesOn q))
+    go (inr (inr w)) = w .1
 
 -- the number of sound records fits its type
 pub step-count : (ended : Bool) (log : Log) (s : List ℕ) → log .count < 2 ^ 32 → stepOf ended log s .log .count < 2 ^ 32

@@ -9,11 +9,12 @@ use native.Mathlib.Omega.{arith}
 use lib.ListN.{length, length-map, length-take, take}
 use Rattle.conversion.specs.declared.SignalDefinition.{SignalDefinition}
 use Rattle.detector.specs.declared.EwmaDetector.{EwmaDetector}
+use Rattle.table.specs.declared.Answer.{Answer}
 use Rattle.table.specs.declared.Signal.{Signal}
 use Rattle.table.specs.declared.Entry.{Entry}
 use Rattle.table.specs.declared.SignalIdsEngine.{SignalIdsEngine}
 use Rattle.table.specs.Rows.{every}
-use Rattle.table.specs.Table.{Table, Told, accepted, refused, tableOf, engineOf, emptyTable, withRows, defined, fault, entryOf, below, placedBehind, define′, has, remove′, appended, appendedAll, batch′}
+use Rattle.table.specs.Table.{Table, Told, accepted, refused, tableOf, engineOf, emptyTable, withRows, defined, fault, entryOf, below, placedBehind, has, appended, appendedAll}
 use Rattle.table.specs.Calls.{TableCall, defines, batches, removes, told, left, after, ran, called}
 use Rattle.table.specs.Regular.{Used, Proper, Regular}
 use Rattle.table.proofs.Laws.{length-insert, length-drop-first}
@@ -77,15 +78,6 @@ module _ (limit : ℕ) (t : Table) (d : SignalDefinition) (low : d .«can_id» �
       every-insert (λ r. r .signal .slot < min (t .next + 1) 65535) (below limit) new (t .rows) (omega arith)
       (every-weaken (λ r. r .signal .slot < t .next) (λ r. r .signal .slot < min (t .next + 1) 65535) (λ r k. omega arith) (t .rows) free)
 
-pub define-keeps : (t : Table) (d : SignalDefinition) → Regular t → Regular (left t (define′ t d))
-define-keeps t d g = go (define′ t d) refl
-  where
-    go : (x : Told) → define′ t d ≡ x → Regular (left t x)
-    go (refused k) e = g
-    go (accepted a u) e =
-        let f : DefineAccepted t d a u = define-accepted t d a u e in
-        subst Regular (sym (f .table)) (placed-keeps (d .«can_id») t d (omega arith) (omega arith) (f .passes) (f .room) (unused t g (f .unspent)) g)
-
 all-keep : (l : List SignalDefinition) (t : Table)
     → every (λ d. fault d ≡ 0) l
     → length (t .rows) + length l ≤ 64
@@ -101,34 +93,28 @@ all-keep (d ∷ c ∷ l) t ok room slots free g =
     all-keep (c ∷ l) (appended t d) (ok .1) (omega arith) (omega arith) (placed-unused q t d (omega arith) (omega arith) (omega arith) free)
     (placed-keeps q t d (omega arith) (omega arith) (ok .0) (omega arith) free g)
 
-pub batch-keeps : (t : Table) (ds : List SignalDefinition) (n : ℕ) → Regular t → Regular (left t (batch′ t ds n))
-batch-keeps t ds n g = go (batch′ t ds n) refl
-  where
-    go : (x : Told) → batch′ t ds n ≡ x → Regular (left t x)
-    go (refused k) e = g
-    go (accepted a u) e =
-        let f : BatchAccepted t ds n a u = batch-accepted t ds n a u e in
-        subst Regular (sym (f .table))
-        (⊎-elim (λ (z : n ≡ 0). subst (λ (j : ℕ). Regular (appendedAll t (take j ds))) (sym z) g)
-        (λ (h : (t .next < 65535) × (t .next + n ≤ 65536)).
-        all-keep (take n ds) t (f .passes) (omega (arith, f .room, length-take n ds)) (omega (arith, h .1, length-take n ds)) (unused t g (λ q. omega (arith, h .0))) g)
-        (slots-enough n (t .next) (g .bound) (f .slots)))
-
-pub remove-keeps : (t : Table) (s : ℕ) → Regular t → Regular (left t (remove′ t s))
-remove-keeps t s g = go (remove′ t s) refl
-  where
-    go : (x : Told) → remove′ t s ≡ x → Regular (left t x)
-    go (refused k) e = g
-    go (accepted a u) e =
-        let f : RemoveAccepted t s a u = remove-accepted t s a u e in
-        subst Regular (sym (f .table))
-        (record {
-          few = omega (arith, g .few, length-drop-first (has s) (t .rows) (f .there));
-          bound = g .bound;
-          sorted = pairs-drop (λ a b. a .id ≤ b .id) (has s) (t .rows) (g .sorted);
-          apart = pairs-drop (λ a b. a .signal .slot ≡ b .signal .slot → ⊥) (has s) (t .rows) (g .apart);
-          proper = every-drop (Proper (t .next)) (has s) (t .rows) (g .proper);
-        })
+-- an accepted call leaves a regular table
+pub accepted-keeps : (t : Table) (c : TableCall) (a : Answer) (u : Table) → Regular t → told t c ≡ accepted a u → Regular u
+accepted-keeps t (defines d) a u g e =
+    let f : DefineAccepted t d a u = define-accepted t d a u e in
+    subst Regular (sym (f .table)) (placed-keeps (d .«can_id») t d (omega arith) (omega arith) (f .passes) (f .room) (unused t g (f .unspent)) g)
+accepted-keeps t (batches ds n) a u g e =
+    let f : BatchAccepted t ds n a u = batch-accepted t ds n a u e in
+    subst Regular (sym (f .table))
+    (⊎-elim (λ (z : n ≡ 0). subst (λ (j : ℕ). Regular (appendedAll t (take j ds))) (sym z) g)
+    (λ (h : (t .next < 65535) × (t .next + n ≤ 65536)).
+    all-keep (take n ds) t (f .passes) (omega (arith, f .room, length-take n ds)) (omega (arith, h .1, length-take n ds)) (unused t g (λ q. omega (arith, h .0))) g)
+    (slots-enough n (t .next) (g .bound) (f .slots)))
+accepted-keeps t (removes s) a u g e =
+    let f : RemoveAccepted t s a u = remove-accepted t s a u e in
+    subst Regular (sym (f .table))
+    (record {
+      few = omega (arith, g .few, length-drop-first (has s) (t .rows) (f .there));
+      bound = g .bound;
+      sorted = pairs-drop (λ a b. a .id ≤ b .id) (has s) (t .rows) (g .sorted);
+      apart = pairs-drop (λ a b. a .signal .slot ≡ b .signal .slot → ⊥) (has s) (t .rows) (g .apart);
+      proper = every-drop (Proper (t .next)) (has s) (t .rows) (g .proper);
+    })
 
 -- rows whose identifier, slot and definition stay, as when a frame moves their detectors
 pub moves-keep : (t : Table) (g : Entry → Entry) → ((r : Entry) → g r .id ≡ r .id) → ((r : Entry) → g r .signal ≡ r .signal) → Regular t → Regular (withRows t (map g (t .rows)))
@@ -156,9 +142,11 @@ moves-keep t g same-id same-signal k =
 
 -- ---- any sequence of calls
 pub after-keeps : (t : Table) (c : TableCall) → Regular t → Regular (after t c)
-after-keeps t (defines d) g = define-keeps t d g
-after-keeps t (batches ds n) g = batch-keeps t ds n g
-after-keeps t (removes s) g = remove-keeps t s g
+after-keeps t c g = go (told t c) refl
+  where
+    go : (x : Told) → told t c ≡ x → Regular (left t x)
+    go (accepted a u) e = accepted-keeps t c a u g e
+    go (refused k) e = g
 
 pub ran-keeps : (cs : List TableCall) (t : Table) → Regular t → Regular (ran t cs)
 ran-keeps [] t g = g

@@ -21,7 +21,7 @@ use Rattle.table.specs.Calls.{TableCall, defines, batches, removes, told
 use Rattle.table.specs.Regular.{Apart, Rising, Regular}
 use Rattle.table.proofs.Lists.{every-weaken, every-append, every-insert, every-drop, pairs-append}
 use Rattle.table.proofs.Accepted.{DefineAccepted, define-accepted, RemoveAccepted, remove-accepted, BatchAccepted, batch-accepted, slots-enough}
-use Rattle.table.proofs.Regular.{after-keeps, empty-regular}
+use Rattle.table.proofs.Regular.{accepted-keeps, empty-regular}
 
 -- ---- numbered definitions
 numbered-from : (s : ℕ) (l : List SignalDefinition) → every (λ g. (s ≤ g .slot) × (g .slot < s + length l)) (numbered s l)
@@ -90,7 +90,7 @@ granted-from (c ∷ cs) t g = go (told t c) refl (λ u k. granted-from cs u k)
         every-append (From (t .next)) (numbered (t .next) (brought c)) (granted u cs)
         (every-weaken (λ s. From (t .next) s × (s .slot < t .next + length (brought c))) (From (t .next)) (λ s h. h .0) (numbered (t .next) (brought c)) (given-from t c u v))
         (every-weaken (From (u .next)) (From (t .next)) (λ s h. (omega (arith, v .next, h .0, h .1), omega (arith, v .next, h .1), h .2)) (granted u cs)
-        (rest u (subst (λ (y : Told). Regular (left t y)) e (after-keeps t c g))))
+        (rest u (accepted-keeps t c a u g e)))
 
 pub granted-rising : (cs : List TableCall) (t : Table) → Regular t → Rising (granted t cs)
 granted-rising [] t g = tt
@@ -100,7 +100,7 @@ granted-rising (c ∷ cs) t g = go (told t c) refl (λ u k. granted-rising cs u 
     go (refused k) e rest = rest t g
     go (accepted a u) e rest =
         let v : Gives t c u = gives t c a u g e in
-        let r : Regular u = subst (λ (y : Told). Regular (left t y)) e (after-keeps t c g) in
+        let r : Regular u = accepted-keeps t c a u g e in
         pairs-append (λ b s. b .slot < s .slot) (numbered (t .next) (brought c)) (granted u cs) (numbered-rising (t .next) (brought c))
         (every-weaken (λ s. From (t .next) s × (s .slot < t .next + length (brought c))) (λ b. every (λ s. b .slot < s .slot) (granted u cs))
         (λ b h. every-weaken (From (u .next)) (λ s. b .slot < s .slot) (λ s k. omega (arith, v .next, h .1, k .0, k .1)) (granted u cs) (granted-from cs u r))
@@ -173,7 +173,7 @@ ran-known (c ∷ cs) t g r k = go (told t c) refl (λ u h v m. ran-known cs u h 
     go (refused j) e rest = rest t g r k
     go (accepted a u) e rest =
         subst (λ (m : List Signal). Known m (ran u cs .rows)) (append-assoc g (numbered (t .next) (brought c)) (granted u cs))
-        (rest u (g ++ numbered (t .next) (brought c)) (subst (λ (y : Told). Regular (left t y)) e (after-keeps t c r)) (known-after t c a u g r e k))
+        (rest u (g ++ numbered (t .next) (brought c)) (accepted-keeps t c a u r e) (known-after t c a u g r e k))
 
 -- in every table that calls make, each live row has the slot and the definition that a call was given
 pub live-given : (f : EwmaDetector) (cs : List TableCall) → Known (granted (emptyTable f) cs) (ran (emptyTable f) cs .rows)

@@ -1,20 +1,28 @@
 -- `framelog::print` meets its contract.
 -- Assumes nothing.
+use Prim.Native.Nat.{_≤_}
 use native.Mathlib.Omega.{arith}
 use denote.Ref.{now}
+use Rattle.io.specs.Counts.{Counts}
 use Rattle.framelog.proofs.Down.{worked}
 use borrow.Author.Needs.{needs}
 use Rattle.framelog.proofs.print.Statement.{statement}
 use Rattle.framelog.proofs.print.Tie as tie
 
+-- the call took bytes that are at hand, and what it wrote has room
+at-work : (c : tie.After-work) → (c .work .result .used ≤ c .before .before .before .before .before .args .have) × Counts (c .work .result .end) (c .work .last .1 .1 .1 .1 .0)
+at-work c =
+    let start = c .before .before .before .before .before in
+    worked (start .args .ended) (start .args .log) (start .args .have) (now (start .args .input)) (start .pre) (c .work .ensures .0)
+
 work-requires : tie.Need-work-requires
 work-requires c κs = search needs
 
 slice-reshare-prefix-write-all : tie.Need-slice-reshare-prefix-write-all
-slice-reshare-prefix-write-all c = worked (c .before .before .before .before .before .before .before .before .before .before .args .ended) (c .before .before .before .before .before .before .before .before .before .before .args .log) (c .before .before .before .before .before .before .before .before .before .before .args .have) (now (c .before .before .before .before .before .before .before .before .before .before .args .input)) (c .before .before .before .before .before .before .before .before .before .before .pre) (c .before .before .before .before .before .work .ensures .0) .1 .0
+slice-reshare-prefix-write-all c = at-work (c .before .before .before .before .before) .1 .0
 
 slice-aggregate-write-all : tie.Need-slice-aggregate-write-all
-slice-aggregate-write-all c = worked (c .before .before .before .before .before .before .before .before .before .before .before .args .ended) (c .before .before .before .before .before .before .before .before .before .before .before .args .log) (c .before .before .before .before .before .before .before .before .before .before .before .args .have) (now (c .before .before .before .before .before .before .before .before .before .before .before .args .input)) (c .before .before .before .before .before .before .before .before .before .before .before .pre) (c .before .before .before .before .before .before .work .ensures .0) .1 .1
+slice-aggregate-write-all c = at-work (c .before .before .before .before .before .before) .1 .1
 
 write-all-requires : tie.Need-write-all-requires
 write-all-requires c κs = search needs
@@ -38,7 +46,7 @@ returns : tie.Need-returns
 returns c = search needs
 
 sub-t23 : tie.Need-sub-t23
-sub-t23 c = omega (arith, worked (c .before .before .before .before .before .before .before .before .before .before .before .before .before .args .ended) (c .before .before .before .before .before .before .before .before .before .before .before .before .before .args .log) (c .before .before .before .before .before .before .before .before .before .before .before .before .before .args .have) (now (c .before .before .before .before .before .before .before .before .before .before .before .before .before .args .input)) (c .before .before .before .before .before .before .before .before .before .before .before .before .before .pre) (c .before .before .before .before .before .before .before .before .work .ensures .0) .0)
+sub-t23 c = omega (arith, at-work (c .before .before .before .before .before .before .before .before) .0)
 
 is-waiting-requires : tie.Need-is-waiting-requires
 is-waiting-requires c κs = search needs

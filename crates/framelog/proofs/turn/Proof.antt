@@ -1,10 +1,16 @@
 -- `framelog::turn` meets its contract.
 -- Assumes nothing.
+use Prim.Native.Nat.{_+_, _≤_}
 use native.Mathlib.Omega.{arith}
+use lib.ListN.{length}
 use Rattle.framelog.proofs.Down.{bytes-in}
 use borrow.Author.Needs.{needs}
 use Rattle.framelog.proofs.turn.Statement.{statement}
 use Rattle.framelog.proofs.turn.Tie as tie
+
+-- the bytes that were read stand in the buffer
+read-in : (c : tie.After-n) → c .before .before .before .before .before .before .before .before .before .before .args .st .have + c .n .given .0 .0 ≤ length (c .before .before .before .before .read-more .last .0)
+read-in c = bytes-in (c .before .before .before .before .before .before .before .before .before .before .args .st .have) (c .n .given .0 .0) (c .before .before .before .before .read-more .result) (c .before .before .before .before .read-more .last .0) (c .before .before .before .before .read-more .ensures) (c .n .given .1)
 
 read-more-requires : tie.Need-read-more-requires
 read-more-requires c κs = search needs
@@ -13,10 +19,10 @@ enum-known-n : tie.Need-enum-known-n
 enum-known-n c = search needs
 
 add-print : tie.Need-add-print
-add-print c = omega (arith, bytes-in (c .before .before .before .before .before .before .before .before .before .before .before .args .st .have) (c .before .n .given .0 .0) (c .before .before .before .before .before .read-more .result) (c .before .before .before .before .before .read-more .last .0) (c .before .before .before .before .before .read-more .ensures) (c .before .n .given .1))
+add-print c = omega (arith, read-in (c .before))
 
 print-requires : tie.Need-print-requires
-print-requires c κs = bytes-in (c .before .before .before .before .before .before .before .before .before .before .before .before .before .args .st .have) (c .before .before .before .n .given .0 .0) (c .before .before .before .before .before .before .before .read-more .result) (c .before .before .before .before .before .before .before .read-more .last .0) (c .before .before .before .before .before .before .before .read-more .ensures) (c .before .before .before .n .given .1)
+print-requires c κs = read-in (c .before .before .before)
 
 enum-told : tie.Need-enum-told
 enum-told c = search needs

@@ -1,6 +1,6 @@
 // Reads a log from standard input, and writes its lines to standard output.
 ghost use mathlib.Core.Path.{_≡_};
-ghost use Prim.Native.Nat.{_+_, _-_, _≤_};
+ghost use Prim.Native.Nat.{_-_, _≤_};
 ghost use lib.ListN.{length, take, drop};
 ghost use lib.Seq.{sets};
 ghost use Rattle.log.specs.Pieces.{Does, advanceOf};

@@ -1,7 +1,7 @@
 // One record: the mark at the front of the bytes, and what the record says.
 ghost use mathlib.Core.Path.{_≡_};
-ghost use Prim.Native.Nat.{_+_, _<_, _≤_};
-ghost use lib.ListN.{length, take, drop, getD};
+ghost use Prim.Native.Nat.{_+_, _<_};
+ghost use lib.ListN.{length};
 ghost use Rattle.log.specs.Records.{le16, le32, markOf, sizeOf, settingsOf, defineOf, removeOf, frameOf, recordOf, itemOf, misplaced, badFlags, conditionOf, orderOf};
 use bits::ByteOrder;
 use conversion::Condition;

@@ -1,7 +1,7 @@
 // A log as it goes: as many records as the bytes at hand and the room for their lines allow.
 ghost use mathlib.Core.Path.{_≡_};
 ghost use Prim.Native.Nat.{_+_, _<_, _≤_};
-ghost use lib.ListN.{length, take, drop};
+ghost use lib.ListN.{length};
 ghost use Rattle.log.specs.Output.{startOf, frameAt, goesOn, lastNumber, stopStep, waitStep, settledStep, calledStep, requestStep};
 ghost use Rattle.log.specs.Pieces.{Does, after, answerOf, soundOf, advanceOf};
 use crate::decode::Item;

@@ -8,9 +8,8 @@ mod plain;
 mod script;
 mod show;
 
-ghost use Prim.Native.Nat.{_+_, _≤_};
+ghost use Prim.Native.Nat.{_≤_};
 ghost use lib.ListN.{length};
-ghost use Rattle.io.specs.Counts.{Counts};
 use detector::EwmaDetector;
 use libc::STDIN_FILENO;
 use libc::STDOUT_FILENO;

@@ -197,9 +197,7 @@ pub fn advance(log: Log, s: &[u8], ended: bool, out: &mut [u8]) -> Step
             Item::Wait => {
                 return on_wait(Log { count, engine }, used, s.len() - used, ended, out, end);
             }
-            Item::Stop(k) => {
-                return on_stop(Log { count, engine }, used, k, out, end);
-            }
+            Item::Stop(k) => return on_stop(Log { count, engine }, used, k, out, end),
             Item::Call(q) => {
                 let r = on_request(Log { count, engine }, q, out, end);
                 let next = r.log;

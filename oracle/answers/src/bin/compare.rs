@@ -11,12 +11,13 @@ struct Asked {
     seconds: Option<u64>,
     cases: Option<u64>,
     logs: Option<u64>,
+    every: usize,
     pack: Option<PathBuf>,
     seed: u64,
 }
 
 fn asked() -> Asked {
-    let mut a = Asked { seconds: None, cases: None, logs: None, pack: None, seed: 1 };
+    let mut a = Asked { seconds: None, cases: None, logs: None, every: 1, pack: None, seed: 1 };
     let words: Vec<String> = std::env::args().skip(1).collect();
     for pair in words.chunks(2) {
         let n = pair.get(1).and_then(|n| n.parse().ok());
@@ -24,10 +25,11 @@ fn asked() -> Asked {
             ("--seconds", Some(n)) => a.seconds = Some(n),
             ("--cases", Some(n)) => a.cases = Some(n),
             ("--logs", Some(n)) => a.logs = Some(n),
+            ("--every", Some(n)) if n > 0 => a.every = n as usize,
             ("--seed", Some(n)) => a.seed = n,
             ("--pack", _) if pair.len() == 2 => a.pack = Some(PathBuf::from(&pair[1])),
             _ => {
-                eprintln!("usage: compare [--seconds N] [--cases N] [--logs N [--pack FILE]] [--seed N]");
+                eprintln!("usage: compare [--seconds N] [--cases N] [--logs N [--every N] [--pack FILE]] [--seed N]");
                 exit(2);
             }
         }
@@ -259,12 +261,12 @@ impl Bench {
         self.log(&short, records);
     }
 
-    /// The example logs, cut at every byte, and so many damaged ones.
-    fn logs(&mut self, seed: u64, n: u64, since: Instant) {
+    /// The example logs, cut at every byte or every so many, and `n` damaged ones.
+    fn logs(&mut self, seed: u64, n: u64, every: usize, since: Instant) {
         let examples = Path::new(env!("CARGO_MANIFEST_DIR")).join("../../examples");
         for name in logs_in(&examples).into_iter().chain(logs_in(&examples.join("damaged"))) {
             let whole = std::fs::read(name).expect("an example");
-            for cut in 0..=whole.len() {
+            for cut in (0..=whole.len()).step_by(every) {
                 self.log(&whole[..cut], 0);
             }
         }
@@ -298,7 +300,7 @@ fn main() {
     let since = Instant::now();
     let mut said = since;
     if let Some(n) = asked.logs {
-        b.logs(asked.seed, n, since);
+        b.logs(asked.seed, n, asked.every, since);
     } else {
         b.fixed();
     }

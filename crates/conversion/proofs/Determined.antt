@@ -1,18 +1,18 @@
 -- Two results that a promise of this crate allows are equal, for each public call. Assumes nothing.
 use mathlib.Core.Path.{_≡_, refl, sym, ap, _∙_}
-use mathlib.Core.Bool.{Bool}
-use mathlib.Core.List.{List}
-use Prim.Native.Nat.{ℕ}
-use lib.IntN.{ℤ, pos}
-use lib.Ieee.{Float, binary32, ofInt, ofBits, toBits}
-use lib.Ieee.Scale.{finite}
-use Rattle.bits.specs.Answers.{rawMeans}
-use Rattle.bits.specs.declared.Raw.{Raw}
+use Rattle.bits.proofs.Promise.{Determines}
 use Rattle.bits.proofs.Theorems.{raw-settled}
-use Rattle.conversion.specs.Extract.{defaultDefinition, rawSignal, extractedMeans, signalOf}
-use Rattle.conversion.specs.declared.SignalDefinition.{SignalDefinition}
+use Rattle.conversion.specs.Extract.{extractedMeans}
 use Rattle.conversion.specs.declared.Extracted.{Extracted}
 use Rattle.conversion.specs.declared.Extracted.the-variants.{Value, Nothing}
+use Rattle.conversion.proofs.is_finite.Reads as is-finite
+use Rattle.conversion.proofs.f32_of_bits.Reads as f32-of-bits
+use Rattle.conversion.proofs.bits_of_f32.Reads as bits-of-f32
+use Rattle.conversion.proofs.nearest_u64.Reads as nearest-u64
+use Rattle.conversion.proofs.nearest_i64.Reads as nearest-i64
+use Rattle.conversion.proofs.SignalDefinition.default.Reads as default
+use Rattle.conversion.proofs.extract_signal_raw.Reads as extract-signal-raw
+use Rattle.conversion.proofs.extract_signal.Reads as extract-signal
 
 -- the meaning of an answer tells all answers apart
 pub extracted-settled : (a b : Extracted) → extractedMeans a ≡ extractedMeans b → a ≡ b
@@ -21,27 +21,26 @@ extracted-settled Nothing Nothing h = refl
 extracted-settled (Value v) Nothing h = cc
 extracted-settled Nothing (Value w) h = cc
 
-pub is-finite-determined : (x : Float) (a b : Bool) → a ≡ finite x → b ≡ finite x → a ≡ b
-is-finite-determined x a b p q = p ∙ sym q
+pub is-finite-determined : Determines is-finite.Learnt
+is-finite-determined κs a r q s t p p′ = p ∙ sym p′
 
-pub f32-of-bits-determined : (bits : ℕ) (a b : Float) → a ≡ ofBits binary32 bits → b ≡ ofBits binary32 bits → a ≡ b
-f32-of-bits-determined bits a b p q = p ∙ sym q
+pub f32-of-bits-determined : Determines f32-of-bits.Learnt
+f32-of-bits-determined κs a r q s t p p′ = p ∙ sym p′
 
-pub bits-of-f32-determined : (x : Float) (a b : ℕ) → a ≡ toBits binary32 x → b ≡ toBits binary32 x → a ≡ b
-bits-of-f32-determined x a b p q = p ∙ sym q
+pub bits-of-f32-determined : Determines bits-of-f32.Learnt
+bits-of-f32-determined κs a r q s t p p′ = p ∙ sym p′
 
-pub nearest-u64-determined : (n : ℕ) (a b : Float) → a ≡ ofInt binary32 (pos n) → b ≡ ofInt binary32 (pos n) → a ≡ b
-nearest-u64-determined n a b p q = p ∙ sym q
+pub nearest-u64-determined : Determines nearest-u64.Learnt
+nearest-u64-determined κs a r q s t p p′ = p ∙ sym p′
 
-pub nearest-i64-determined : (n : ℤ) (a b : Float) → a ≡ ofInt binary32 n → b ≡ ofInt binary32 n → a ≡ b
-nearest-i64-determined n a b p q = p ∙ sym q
+pub nearest-i64-determined : Determines nearest-i64.Learnt
+nearest-i64-determined κs a r q s t p p′ = p ∙ sym p′
 
-pub default-determined : (a b : SignalDefinition) → a ≡ defaultDefinition → b ≡ defaultDefinition → a ≡ b
-default-determined a b p q = p ∙ sym q
+pub default-determined : Determines default.Learnt
+default-determined κs a r q s t p p′ = p ∙ sym p′
 
-module _ (s : List ℕ) (n : ℕ) (d : SignalDefinition) where
-  pub extract-signal-raw-determined : (a b : Raw) → rawMeans a ≡ rawSignal s n d → rawMeans b ≡ rawSignal s n d → a ≡ b
-  extract-signal-raw-determined a b p q = raw-settled a b (p ∙ sym q)
+pub extract-signal-raw-determined : Determines extract-signal-raw.Learnt
+extract-signal-raw-determined κs a r q s t p p′ = raw-settled r q (p ∙ sym p′)
 
-  pub extract-signal-determined : (a b : Extracted) → extractedMeans a ≡ signalOf s n d → extractedMeans b ≡ signalOf s n d → a ≡ b
-  extract-signal-determined a b p q = extracted-settled a b (p ∙ sym q)
+pub extract-signal-determined : Determines extract-signal.Learnt
+extract-signal-determined κs a r q s t p p′ = extracted-settled r q (p ∙ sym p′)

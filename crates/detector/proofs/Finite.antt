@@ -1,13 +1,13 @@
 -- A score is finite, so never a NaN, whatever the detector and the sample. Assumes nothing.
-use mathlib.Core.Path.{_≡_, refl, ap, _∙_}
+use mathlib.Core.Path.{_≡_, refl, sym, ap, _∙_}
 use mathlib.Core.Bool.{Bool, true, false, cond}
 use lib.Ieee.{Float, binary32, div, lt, ofBits}
 use lib.Ieee.Scale.{finite}
 use Rattle.detector.specs.declared.AnomalyScore.{AnomalyScore}
 use Rattle.detector.specs.declared.EwmaDetector.{EwmaDetector}
-use Rattle.detector.specs.declared.Verdict.the-variants.{Scored}
-use Rattle.detector.specs.Ewma.{zero32, least32, eps32, max32, magnitude, sqrtApprox, flooredVariance, scaled, unscaled, scoreAt, scoreOf, distance, updated}
-use Rattle.detector.proofs.Samples.{was-scored}
+use Rattle.detector.specs.Answers.{warming, scored}
+use Rattle.detector.specs.Ewma.{Sampled, zero32, least32, eps32, max32, magnitude, sqrtApprox, flooredVariance, scaled, unscaled, scoreAt, scoreOf, distance, updated}
+use Rattle.detector.proofs.Samples.{Which, was-ignored, was-first, was-warming, was-past, which, not-finite-ignored, first-sample, warming-folded, past-scored, was-scored}
 
 pub zero-finite : finite zero32 ≡ true
 unfolding ofBits
@@ -45,5 +45,17 @@ score-finite d diff = go (lt least32 deviation)
     go true = scaled-finite (d .«z_threshold») (div binary32 a deviation)
     go false = unscaled-finite a
 
-pub scored-finite : (d : EwmaDetector) (value : Float) (s : AnomalyScore) → updated d value .verdict ≡ Scored s → finite (s .«z_score») ≡ true
-scored-finite d value s e = ap (λ (t : AnomalyScore). finite (t .«z_score»)) (was-scored d value s e .is) ∙ score-finite d (distance d value)
+pub scored-finite : (d : EwmaDetector) (value z : Float) (flag : Bool) → updated d value .said ≡ scored z flag → finite z ≡ true
+scored-finite d value z flag e = ap finite (was-scored d value z flag e .score) ∙ score-finite d (distance d value)
+
+pub warming-finite : (d : EwmaDetector) (value z : Float) (flag : Bool) → updated d value .said ≡ warming z flag → finite z ≡ true
+warming-finite d value z flag e = go (which d value)
+  where
+    said : {u : Sampled} → updated d value ≡ u → u .said ≡ warming z flag
+    said h = sym (ap (λ (u : Sampled). u .said) h) ∙ e
+
+    go : Which d value → finite z ≡ true
+    go (was-ignored f) = let h = said (not-finite-ignored d value f) in cc
+    go (was-first f n) = let h = said (first-sample d value f n) in cc
+    go (was-warming f n w) = let h = said (warming-folded d value f n w) in let same : zero32 ≡ z = cc in ap finite (sym same) ∙ zero-finite
+    go (was-past f p) = let h = said (past-scored d value p f) in cc

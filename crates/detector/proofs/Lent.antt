@@ -138,7 +138,7 @@ module _ (S : Struct) (P : Plain) (k : ℕ) (of : S .type .D → P .row .Denot) 
         (load t (from t (fld t placed (stop t))) (look-in t 0 (sub t k placed (whole t))));
   }
 
--- Such a function: its types, its callee, which promises to return `made h n`, the pieces of that which are stored and returned, what the function says of them, and that it is so.
+-- Such a function: its types, its callee and what that promises of its result, the pieces of the result that are stored and returned, what the function says of them, and why it is so.
 -- The value passed is at exit as it was passed (`still`).
 pub record InPlace : Type 2 where
   pub lent : Plain
@@ -147,11 +147,11 @@ pub record InPlace : Type 2 where
   pub told : Plain
   pub still : passed .row .exit yes ≡ unchanged
   pub callee : Name
-  pub made : lent .row .Denot → passed .row .Denot → got .row .Denot
+  pub Promised : lent .row .Denot → passed .row .Denot → got .row .Denot → Type 0
   pub new : Piece got lent
   pub answer : Piece got told
   pub Said : lent .row .Denot → passed .row .Denot → lent .row .Denot → told .row .Denot → Type 0
-  pub so : (h : lent .row .Denot) (n : passed .row .Denot) → Said h n (new .of (made h n)) (answer .of (made h n))
+  pub so : (h : lent .row .Denot) (n : passed .row .Denot) (r : got .row .Denot) → Promised h n r → Said h n (new .of r) (answer .of r)
 
 module _ (F : InPlace) where
   abbrev T : RattleType
@@ -200,15 +200,15 @@ module _ (F : InPlace) where
     clauses κs a = record { ghost = Unit {0}; requires = λ _. emp 𝓤; ensures = λ _ r e. fact 𝓤 (F .Said (now (a .0)) (a .1 .0) (now (e .0)) r) }
 
     abbrev callee-clauses : Clauses 𝓤 callee-ended
-    callee-clauses κs a = record { ghost = Unit {0}; requires = λ _. emp 𝓤; ensures = λ _ r e. fact 𝓤 (r ≡ F .made (a .0) (a .1 .0)) }
+    callee-clauses κs a = record { ghost = Unit {0}; requires = λ _. emp 𝓤; ensures = λ _ r e. fact 𝓤 (F .Promised (a .0) (a .1 .0) r) }
 
   module _ {M : Type 1} (𝓤 : URA M) (H : Heap 𝓤) (A : Atoms 𝓤) where
     abbrev Callee : Contract 𝓤
     Callee = tripleOf 𝓤 H A (callee-ended .signature) (closing 𝓤 H A callee-ended (callee-clauses 𝓤))
 
     -- of the callee's `ensured`, the clause alone
-    ensured-of : (h : T .Denot) (n : N .Denot) (r : G .Denot) → ent 𝓤 (ensured 𝓤 H A callee-ended (callee-clauses 𝓤) tt (h, (n, tt)) tt r) (fact 𝓤 (r ≡ F .made h n))
-    ensured-of h n r = exE 𝓤 _ (λ ws. snd∗ 𝓤 (sem 𝓤 H A (lasts callee-ended tt (h, (n, tt)) ws)) (fact 𝓤 (r ≡ F .made h n)))
+    ensured-of : (h : T .Denot) (n : N .Denot) (r : G .Denot) → ent 𝓤 (ensured 𝓤 H A callee-ended (callee-clauses 𝓤) tt (h, (n, tt)) tt r) (fact 𝓤 (F .Promised h n r))
+    ensured-of h n r = exE 𝓤 _ (λ ws. snd∗ 𝓤 (sem 𝓤 H A (lasts callee-ended tt (h, (n, tt)) ws)) (fact 𝓤 (F .Promised h n r)))
 
   module _ {M : Type 1} (𝓤 : URA M) (H : Heap 𝓤) (A : Atoms 𝓤) (W : Given 𝓤 H A) (κ : Lft) (q : Share) (b o : ℕ) (γ : GName) (h : T .Denot) (n : N .Denot) where
     abbrev x : RefT (T .Denot) × (N .Denot × Unit {0})
@@ -220,12 +220,12 @@ module _ (F : InPlace) where
     abbrev Post : Val → SProp 𝓤
     Post = walkOf 𝓤 H A ended stayed (clauses 𝓤) .post (((κ, tt), (q, tt), tt, x, at), tt)
 
-    exits : (r : G .Denot) → r ≡ F .made h n → Is N n (vals (F .passed) n) → Is R (answer r) (vals (F .told) (answer r))
+    exits : (r : G .Denot) → F .Promised h n r → Is N n (vals (F .passed) n) → Is R (answer r) (vals (F .told) (answer r))
         → ent 𝓤 (sep 𝓤 (A .obs γ (T .coded .code (new r))) (sep 𝓤 (A .bor κ (Body (mem T) b o γ)) (A .lft κ q))) (Post (F .told .val (answer r)))
     exits r e gn is =
         qed W (‵ (fobs γ (T .coded .code (new r))) ∷ ‵ (fbor κ (Body (mem T) b o γ)) ∷ ‵ (flft κ q) ∷ []) ∵
         suffices ! _ (ends-at 𝓤 H A ended stayed (clauses 𝓤) W (((κ, tt), (q, tt), tt, x, at), tt) (F .told .val (answer r)) (answer r) (new r, (last n, tt)) (tt, (tt, tt))) $
-        says ! (subst (λ (u : G .Denot). F .Said h n (new u) (answer u)) (sym e) (F .so h n)) $ nothing ! $ move ! (3 ∷ 0 ∷ []) $ join ! $
+        says ! (F .so h n r e) $ nothing ! $ move ! (3 ∷ 0 ∷ []) $ join ! $
         frame ! $ feqI ! (List Val) (vptr b o ∷ []) (vptr b o ∷ []) refl $ fjoin3 ! $ nothing ! $ owned ! N (Is N) (makes (F .passed) 𝓤 H A) n _ gn $ fjoin ! $ move ! (1 ∷ 0 ∷ []) $ fjoin ! $
         owned ! R (Is R) (makes (F .told) 𝓤 H A) (answer r) _ is $ move ! (1 ∷ 0 ∷ []) $ done !
 
@@ -253,7 +253,7 @@ module _ (F : InPlace) where
           -- [what the callee asks; the lent cell; the open borrow; obs; auth; _4; …; _3; …; _2; …; _1; …; room for _0; …]
           calls-at ! fm (Callee 𝓤 H A) known to-callee (and-then ! (load ! (from ! (stop !)) (look ! 5 refl)) (and-then ! (load ! (from ! (stop !)) (look ! 9 refl)) (no-more !))) (λ v.
           use1 W (later (some-of (λ (r : G .Denot). (‵ ftrue ⊛ ‵ (G .own r (v ∷ []))) ⊛ raw (ensured 𝓤 H A callee-ended (callee-clauses 𝓤) tt (h, (n, tt)) tt r)))) (id⊢ 𝓤 _) $ await ! tt $ pick ! (λ r.
-          split ! $ move ! (1 ∷ []) $ use1 W (raw (fact 𝓤 (r ≡ F .made h n))) (ensured-of 𝓤 H A h n r) $ heard ! (r ≡ F .made h n) (λ e. split ! $ drop ! $
+          split ! $ move ! (1 ∷ []) $ use1 W (raw (fact 𝓤 (F .Promised h n r))) (ensured-of 𝓤 H A h n r) $ heard ! (F .Promised h n r) (λ e. split ! $ drop ! $
           facts ! G (Is G) (shows 𝓤 H A G) r (v ∷ []) (λ is. land ! (from ! (stop !)) (init ! 6 refl (typed (F .got) 𝓤 H A W r v is .0)) $ move ! (6 ∷ []) $
           rewrite ! 0 (λ (u : Val). ‵ (fat fullShare (cell (F .got)) l₃ zero u)) (ap only (F .got .tells r (v ∷ []) is)) refl $
           (let is-new : Is T (new r) (vals (F .lent) (new r)) = F .new .is r (spelled (F .got) r v is) in

@@ -6,15 +6,12 @@ use Prim.Native.Nat.{ℕ, _-_, _<_, _≤_}
 use native.Mathlib.Omega.{arith}
 use mathlib.Core.Bool.{Bool, true, false, not, _||_, cond}
 use lib.Dec.{eqb, ltb}
-use borrow.Author.Tests.{eq-eqb, ne-eqb, lt-ltb, le-ltb, eqb-false, ltb-false}
+use borrow.Author.Tests.{eq-eqb, ne-eqb, lt-ltb, le-ltb, eqb-true, eqb-false, ltb-true, ltb-false}
 use lib.Ieee.{Float, lt}
 use lib.Ieee.Scale.{finite}
-use Rattle.detector.specs.declared.AnomalyScore.{AnomalyScore}
 use Rattle.detector.specs.declared.EwmaDetector.{EwmaDetector}
-use Rattle.detector.specs.declared.Verdict.the-variants.{Ignored, First, Warming, Scored}
-use Rattle.detector.specs.declared.Updated.{Updated}
-use Rattle.detector.specs.Answers.{configured, unconfigured}
-use Rattle.detector.specs.Ewma.{zero32, distance, newMean, newVariance, folded, held, settled, scoreOf, updated, withFreeze, withDuration, withStats, resetOf, recalibrated}
+use Rattle.detector.specs.Answers.{ignored, firstSample, warming, scored, scoredAs, configured, unconfigured}
+use Rattle.detector.specs.Ewma.{Sampled, zero32, distance, newMean, newVariance, folded, held, settled, scoreOf, updated, withFreeze, withDuration, withStats, resetOf, recalibrated}
 use Rattle.detector.proofs.Told.{chosen, other, or-yes, or-next, and-no, and-other}
 use Rattle.detector.proofs.Floats.{below-zero}
 
@@ -39,19 +36,19 @@ anomalous d value = scoreOf d (distance d value) .«is_anomalous»
 -- ---- which of the four cases
 
 -- "A non-finite sample changes nothing and has no score."
-pub not-finite-ignored : (d : EwmaDetector) (value : Float) → finite value ≡ false → updated d value ≡ record { detector = d; verdict = Ignored }
+pub not-finite-ignored : (d : EwmaDetector) (value : Float) → finite value ≡ false → updated d value ≡ record { detector = d; said = ignored }
 unfolding updated
 not-finite-ignored d value f = chosen _ _ (ap not f)
 
 -- "The first sample sets the mean, variance 0, and has no score." The count is then 1.
 pub first-sample : (d : EwmaDetector) (value : Float) → finite value ≡ true → d .count ≡ 0
-    → updated d value ≡ record { detector = withStats d value zero32 1; verdict = First }
+    → updated d value ≡ record { detector = withStats d value zero32 1; said = firstSample }
 unfolding updated
 first-sample d value f none = other _ _ (ap not f) ∙ chosen _ _ (eq-eqb (d .count) 0 none)
 
 -- "While the count is below the warm-up, samples are folded and score 0."
 pub warming-folded : (d : EwmaDetector) (value : Float) → finite value ≡ true → 0 < d .count → d .count < d .«warmup_count»
-    → updated d value ≡ record { detector = folded d (distance d value); verdict = Warming }
+    → updated d value ≡ record { detector = folded d (distance d value); said = warming zero32 false }
 unfolding updated
 warming-folded d value f some cold =
     let nonzero : d .count ≡ 0 → ⊥ = λ e. omega arith in
@@ -59,39 +56,46 @@ warming-folded d value f some cold =
 
 -- "Otherwise the score is taken against the old mean and floored variance."
 pub past-scored : (d : EwmaDetector) (value : Float) → Past d → finite value ≡ true
-    → updated d value ≡ record { detector = settled d (distance d value) (anomalous d value); verdict = Scored (scoreOf d (distance d value)) }
+    → updated d value ≡ record { detector = settled d (distance d value) (anomalous d value); said = scoredAs (scoreOf d (distance d value)) }
 unfolding updated
 past-scored d value p f =
     let nonzero : d .count ≡ 0 → ⊥ = λ e. let h = p .some-sample in omega arith in
     other _ _ (ap not f) ∙ other _ _ (ne-eqb (d .count) 0 nonzero) ∙ other _ _ (le-ltb (d .count) (d .«warmup_count») (p .warm))
 
+-- every sample is one of the four
+pub data Which (d : EwmaDetector) (value : Float) : Type 0 where
+  was-ignored : finite value ≡ false → Which d value
+  was-first : finite value ≡ true → d .count ≡ 0 → Which d value
+  was-warming : finite value ≡ true → 0 < d .count → d .count < d .«warmup_count» → Which d value
+  was-past : finite value ≡ true → Past d → Which d value
+
+pub which : (d : EwmaDetector) (value : Float) → Which d value
+which d value = go (finite value) (eqb (d .count) 0) (ltb (d .count) (d .«warmup_count»)) refl refl refl
+  where
+    go : (a b c : Bool) → finite value ≡ a → eqb (d .count) 0 ≡ b → ltb (d .count) (d .«warmup_count») ≡ c → Which d value
+    go false b c f n w = was-ignored f
+    go true true c f n w = was-first f (eqb-true (d .count) 0 n)
+    go true false true f n w = was-warming f (omega (arith, eqb-false (d .count) 0 n)) (ltb-true (d .count) (d .«warmup_count») w)
+    go true false false f n w = was-past f (record { some-sample = omega (arith, eqb-false (d .count) 0 n); warm = ltb-false (d .count) (d .«warmup_count») w })
+
 -- and nothing else is scored
-pub record WasScored (d : EwmaDetector) (value : Float) (s : AnomalyScore) : Type 0 where
+pub record WasScored (d : EwmaDetector) (value z : Float) (flag : Bool) : Type 0 where
   pub sample : finite value ≡ true
   pub past : Past d
-  pub is : s ≡ scoreOf d (distance d value)
+  pub score : z ≡ scoreOf d (distance d value) .«z_score»
+  pub flagged : flag ≡ anomalous d value
 
-pub was-scored : (d : EwmaDetector) (value : Float) (s : AnomalyScore) → updated d value .verdict ≡ Scored s → WasScored d value s
-unfolding updated
-was-scored d value s e = go (finite value) (eqb (d .count) 0) (ltb (d .count) (d .«warmup_count»)) refl refl refl e
+pub was-scored : (d : EwmaDetector) (value z : Float) (flag : Bool) → updated d value .said ≡ scored z flag → WasScored d value z flag
+was-scored d value z flag e = go (which d value)
   where
-    choice : Bool → Bool → Bool → Updated
-    choice a b c =
-        cond (not a) (record { detector = d; verdict = Ignored })
-        (cond b (record { detector = withStats d value zero32 1; verdict = First })
-        (cond c (record { detector = folded d (distance d value); verdict = Warming })
-        (record { detector = settled d (distance d value) (anomalous d value); verdict = Scored (scoreOf d (distance d value)) })))
+    said : {u : Sampled} → updated d value ≡ u → u .said ≡ scored z flag
+    said h = sym (ap (λ (u : Sampled). u .said) h) ∙ e
 
-    go : (a b c : Bool) → finite value ≡ a → eqb (d .count) 0 ≡ b → ltb (d .count) (d .«warmup_count») ≡ c → choice a b c .verdict ≡ Scored s → WasScored d value s
-    go false b c f n w e = let z : _≡_ {A = ℕ} 0 1 = cc in absurd (omega arith)
-    go true true c f n w e = let z : _≡_ {A = ℕ} 0 1 = cc in absurd (omega arith)
-    go true false true f n w e = let z : _≡_ {A = ℕ} 0 1 = cc in absurd (omega arith)
-    go true false false f n w e =
-        record {
-          sample = f;
-          past = record { some-sample = omega (arith, eqb-false (d .count) 0 n); warm = ltb-false (d .count) (d .«warmup_count») w };
-          is = cc;
-        }
+    go : Which d value → WasScored d value z flag
+    go (was-ignored f) = let h = said (not-finite-ignored d value f) in let no : _≡_ {A = ℕ} 0 1 = cc in absurd (omega arith)
+    go (was-first f n) = let h = said (first-sample d value f n) in let no : _≡_ {A = ℕ} 0 1 = cc in absurd (omega arith)
+    go (was-warming f n w) = let h = said (warming-folded d value f n w) in let no : _≡_ {A = ℕ} 0 1 = cc in absurd (omega arith)
+    go (was-past f p) = let h = said (past-scored d value p f) in record { sample = f; past = p; score = cc; flagged = cc }
 
 -- ---- anomalies and the freeze
 
@@ -112,42 +116,39 @@ unfolding settled
 frozen-held d diff a f = chosen _ _ (or-yes a f)
 
 -- a sample that was scored anomalous uses a place of a freeze
-anomaly-held : (d : EwmaDetector) (value : Float) (s : AnomalyScore) → updated d value .verdict ≡ Scored s → s .«is_anomalous» ≡ true → updated d value .detector ≡ held d
-anomaly-held d value s e a =
-    let w = was-scored d value s e in
-    ap (λ (u : Updated). u .detector) (past-scored d value (w .past) (w .sample))
-    ∙ anomalous-held d (distance d value) (anomalous d value) (ap (λ (t : AnomalyScore). t .«is_anomalous») (sym (w .is)) ∙ a)
+anomaly-held : (d : EwmaDetector) (value z : Float) → updated d value .said ≡ scored z true → updated d value .detector ≡ held d
+anomaly-held d value z e =
+    let w = was-scored d value z true e in
+    ap (λ (u : Sampled). u .detector) (past-scored d value (w .past) (w .sample)) ∙ anomalous-held d (distance d value) (anomalous d value) (sym (w .flagged))
 
 -- "An anomalous sample is never folded."
-pub anomalous-not-folded : (d : EwmaDetector) (value : Float) (s : AnomalyScore) → updated d value .verdict ≡ Scored s → s .«is_anomalous» ≡ true
-    → SameStats d (updated d value .detector)
-anomalous-not-folded d value s e a = subst (SameStats d) (sym (anomaly-held d value s e a)) (held-same d)
+pub anomalous-not-folded : (d : EwmaDetector) (value z : Float) → updated d value .said ≡ scored z true → SameStats d (updated d value .detector)
+anomalous-not-folded d value z e = subst (SameStats d) (sym (anomaly-held d value z e)) (held-same d)
 
 -- "It starts a freeze if none runs, and itself uses the first place of it."
-pub anomaly-starts-freeze : (d : EwmaDetector) (value : Float) (s : AnomalyScore) → updated d value .verdict ≡ Scored s → s .«is_anomalous» ≡ true → d .frozen ≡ false
+pub anomaly-starts-freeze : (d : EwmaDetector) (value z : Float) → updated d value .said ≡ scored z true → d .frozen ≡ false
     → updated d value .detector ≡ inFreeze d (d .«freeze_duration» - 1)
 unfolding held
-anomaly-starts-freeze d value s e a f =
-    anomaly-held d value s e a ∙ ap (λ (b : Bool). inFreeze d (cond b (d .«freeze_remaining») (d .«freeze_duration») - 1)) f
+anomaly-starts-freeze d value z e f = anomaly-held d value z e ∙ ap (λ (b : Bool). inFreeze d (cond b (d .«freeze_remaining») (d .«freeze_duration») - 1)) f
 
 -- "While a freeze runs no sample is folded .. and each is scored": the sample uses one place, and nothing else changes.
 pub frozen-uses-place : (d : EwmaDetector) (value : Float) → Past d → finite value ≡ true → d .frozen ≡ true
-    → updated d value ≡ record { detector = inFreeze d (d .«freeze_remaining» - 1); verdict = Scored (scoreOf d (distance d value)) }
+    → updated d value ≡ record { detector = inFreeze d (d .«freeze_remaining» - 1); said = scoredAs (scoreOf d (distance d value)) }
 unfolding held
 frozen-uses-place d value p f r =
     past-scored d value p f
-    ∙ ap (λ (e : EwmaDetector). record { detector = e; verdict = Scored (scoreOf d (distance d value)) })
+    ∙ ap (λ (e : EwmaDetector). record { detector = e; said = scoredAs (scoreOf d (distance d value)) })
     (frozen-held d (distance d value) (anomalous d value) r ∙ ap (λ (b : Bool). inFreeze d (cond b (d .«freeze_remaining») (d .«freeze_duration») - 1)) r)
 
 pub frozen-not-folded : (d : EwmaDetector) (value : Float) → Past d → finite value ≡ true → d .frozen ≡ true → SameStats d (updated d value .detector)
 frozen-not-folded d value p f r =
-    subst (SameStats d) (sym (ap (λ (u : Updated). u .detector) (frozen-uses-place d value p f r))) (record { mean = refl; variance = refl; count = refl })
+    subst (SameStats d) (sym (ap (λ (u : Sampled). u .detector) (frozen-uses-place d value p f r))) (record { mean = refl; variance = refl; count = refl })
 
 -- ".. its last place included": nothing is folded there either, and no freeze runs after it.
 pub last-place-not-folded : (d : EwmaDetector) (value : Float) → Past d → finite value ≡ true → d .frozen ≡ true → d .«freeze_remaining» ≡ 1
     → updated d value .detector ≡ withFreeze d false 0
 last-place-not-folded d value p f r one =
-    ap (λ (u : Updated). u .detector) (frozen-uses-place d value p f r) ∙ ap (λ (n : ℕ). inFreeze d (n - 1)) one
+    ap (λ (u : Sampled). u .detector) (frozen-uses-place d value p f r) ∙ ap (λ (n : ℕ). inFreeze d (n - 1)) one
 
 -- ---- "Freeze 0 acts like 1."
 
@@ -163,8 +164,8 @@ no-place false n = refl
 abbrev pub atOne : EwmaDetector → EwmaDetector
 atOne d = withDuration d 1
 
-abbrev pub updatedAtOne : Updated → Updated
-updatedAtOne u = record { detector = atOne (u .detector); verdict = u .verdict }
+abbrev pub sampledAtOne : Sampled → Sampled
+sampledAtOne u = record { detector = atOne (u .detector); said = u .said }
 
 held-alike : (d : EwmaDetector) → atOne (held (withDuration d 0)) ≡ held (withDuration d 1)
 unfolding held
@@ -178,16 +179,16 @@ settled-alike : (d : EwmaDetector) (diff : Float) (a : Bool) → atOne (settled 
 unfolding settled
 settled-alike d diff a = same-choice atOne (d .frozen || a) (held-alike d) (folded-alike d diff)
 
--- with durations 0 and 1 every sample gives the same verdict, and the same detector but for the duration itself
-pub zero-like-one : (d : EwmaDetector) (value : Float) → updatedAtOne (updated (withDuration d 0) value) ≡ updated (withDuration d 1) value
+-- with durations 0 and 1 every sample is the same to the detector, which is the same after it but for the duration itself
+pub zero-like-one : (d : EwmaDetector) (value : Float) → sampledAtOne (updated (withDuration d 0) value) ≡ updated (withDuration d 1) value
 unfolding updated scoreOf
 zero-like-one d value =
     let diff = distance d value in
-    same-choice updatedAtOne (not (finite value)) refl
-    (same-choice updatedAtOne (eqb (d .count) 0) refl
-    (same-choice updatedAtOne (ltb (d .count) (d .«warmup_count»))
-    (ap (λ (e : EwmaDetector). record { detector = e; verdict = Warming }) (folded-alike d diff))
-    (ap (λ (e : EwmaDetector). record { detector = e; verdict = Scored (scoreOf (withDuration d 1) diff) }) (settled-alike d diff (scoreOf (withDuration d 1) diff .«is_anomalous»)))))
+    same-choice sampledAtOne (not (finite value)) refl
+    (same-choice sampledAtOne (eqb (d .count) 0) refl
+    (same-choice sampledAtOne (ltb (d .count) (d .«warmup_count»))
+    (ap (λ (e : EwmaDetector). record { detector = e; said = warming zero32 false }) (folded-alike d diff))
+    (ap (λ (e : EwmaDetector). record { detector = e; said = scoredAs (scoreOf (withDuration d 1) diff) }) (settled-alike d diff (anomalous (withDuration d 1) value)))))
 
 -- ---- what a fold stores
 
@@ -220,7 +221,7 @@ recalibrated-not-finite d baseline f = other _ _ f
 pub recalibrated-empty-overwritten : (d : EwmaDetector) (baseline value : Float) → finite value ≡ true → d .count ≡ 0
     → updated (recalibrated d baseline) value .detector .mean ≡ value
 recalibrated-empty-overwritten d baseline value f none =
-    ap (λ (u : Updated). u .detector .mean) (first-sample (recalibrated d baseline) value f (kept (finite baseline) refl ∙ none))
+    ap (λ (u : Sampled). u .detector .mean) (first-sample (recalibrated d baseline) value f (kept (finite baseline) refl ∙ none))
   where
     kept : (b : Bool) → finite baseline ≡ b → recalibrated d baseline .count ≡ d .count
     kept true e = ap (λ (t : EwmaDetector). t .count) (recalibrated-finite d baseline e)

@@ -3,6 +3,7 @@
 use Prim.Native.Nat.{ℕ}
 use mathlib.Core.Bool.{Bool, false}
 use lib.Ieee.{Float, binary32, ofBits}
+use Rattle.detector.specs.declared.AnomalyScore.{AnomalyScore}
 use Rattle.detector.specs.declared.EwmaDetector.{EwmaDetector}
 use Rattle.detector.specs.declared.Made.{Made}
 use Rattle.detector.specs.declared.Made.the-variants as made
@@ -24,23 +25,28 @@ abbrev pub resetMeans : Reset → Configured
 resetMeans (reset.Detector d) = configured d
 resetMeans reset.Refused = unconfigured 8
 
--- What a sample was to the detector.
-pub data Case : Type 0 where
-  ignored firstSample warming scored : Case
+-- What a sample was to the detector, with the score and the flag that the Rust answers for it; for the first two it answers none.
+pub data Heard : Type 0 where
+  ignored firstSample : Heard
+  warming scored : Float → Bool → Heard
 
-abbrev pub verdictCase : Verdict → Case
-verdictCase verdict.Ignored = ignored
-verdictCase verdict.First = firstSample
-verdictCase verdict.Warming = warming
-verdictCase (verdict.Scored s) = scored
+abbrev pub scoredAs : AnomalyScore → Heard
+scoredAs s = scored (s .«z_score») (s .«is_anomalous»)
 
--- What the sample scored, which is the Rust's answer: no score, or a score and whether it is anomalous.
+-- Warming scores 0 and is not flagged.
+abbrev pub verdictMeans : Verdict → Heard
+verdictMeans verdict.Ignored = ignored
+verdictMeans verdict.First = firstSample
+verdictMeans verdict.Warming = warming (ofBits binary32 0) false
+verdictMeans (verdict.Scored s) = scoredAs s
+
+-- The Rust's answer: no score, or a score and whether it is anomalous.
 pub data Score : Type 0 where
   noScore : Score
   score : Float → Bool → Score
 
-abbrev pub verdictMeans : Verdict → Score
-verdictMeans verdict.Ignored = noScore
-verdictMeans verdict.First = noScore
-verdictMeans verdict.Warming = score (ofBits binary32 0) false
-verdictMeans (verdict.Scored s) = score (s .«z_score») (s .«is_anomalous»)
+abbrev pub rustScore : Heard → Score
+rustScore ignored = noScore
+rustScore firstSample = noScore
+rustScore (warming z flag) = score z flag
+rustScore (scored z flag) = score z flag

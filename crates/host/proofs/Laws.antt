@@ -10,52 +10,52 @@ use Rattle.detector.specs.declared.Made.the-variants as made
 use Rattle.detector.specs.declared.Reset.{Reset}
 use Rattle.detector.specs.declared.Reset.the-variants as reset
 use Rattle.detector.specs.declared.Verdict.{Verdict}
-use Rattle.detector.specs.declared.Verdict.the-variants.{Ignored, First, Warming, Scored}
-use Rattle.detector.specs.Answers.{Score, noScore, score, madeMeans, resetMeans, verdictMeans}
+use Rattle.detector.specs.Answers.{Heard, ignored, firstSample, warming, scored, Score, noScore, score, rustScore, madeMeans, resetMeans, verdictMeans}
 use Rattle.detector.specs.Ewma.{updated}
-use Rattle.detector.proofs.Finite.{zero-finite, scored-finite}
+use Rattle.detector.proofs.Determined.{verdict-settled}
+use Rattle.detector.proofs.Finite.{zero-finite, warming-finite, scored-finite}
 use Rattle.host.specs.declared.MadeDetector.{MadeDetector}
 use Rattle.host.specs.declared.SampleAnswer.{SampleAnswer}
 use Rattle.host.specs.Answers.{answerOf, handed}
 
 -- ---- an answer tells the verdicts apart
 
--- the verdict that an answer stands for
-abbrev pub verdictIn : SampleAnswer → Verdict
-verdictIn a =
-    cond (eqb (a .kind) 0) Ignored
-    (cond (eqb (a .kind) 1) First
-    (cond (eqb (a .kind) 2) Warming
-    (Scored (record { «z_score» = a .«z_score»; «is_anomalous» = a .«is_anomalous» }))))
+-- what an answer says that the sample was
+abbrev pub heardIn : SampleAnswer → Heard
+heardIn a =
+    cond (eqb (a .kind) 0) ignored
+    (cond (eqb (a .kind) 1) firstSample
+    (cond (eqb (a .kind) 2) (warming (a .«z_score») (a .«is_anomalous»))
+    (scored (a .«z_score») (a .«is_anomalous»))))
 
-pub verdict-read-back : (v : Verdict) → verdictIn (answerOf v) ≡ v
-verdict-read-back Ignored = refl
-verdict-read-back First = refl
-verdict-read-back Warming = refl
-verdict-read-back (Scored s) = refl
+pub verdict-read-back : (h : Heard) → heardIn (answerOf h) ≡ h
+verdict-read-back ignored = refl
+verdict-read-back firstSample = refl
+verdict-read-back (warming z flag) = refl
+verdict-read-back (scored z flag) = refl
 
-pub answer-settled : (a b : Verdict) → answerOf a ≡ answerOf b → a ≡ b
-answer-settled a b e = sym (verdict-read-back a) ∙ ap verdictIn e ∙ verdict-read-back b
+pub answer-settled : (a b : Verdict) → answerOf (verdictMeans a) ≡ answerOf (verdictMeans b) → a ≡ b
+answer-settled a b e = verdict-settled a b (sym (verdict-read-back (verdictMeans a)) ∙ ap heardIn e ∙ verdict-read-back (verdictMeans b))
 
 -- the Rust's answer: below kind 2 it gives no score, from there on the score and the flag that stand in the answer
 abbrev pub scoreIn : SampleAnswer → Score
 scoreIn a = cond (ltb (a .kind) 2) noScore (score (a .«z_score») (a .«is_anomalous»))
 
-pub score-read-back : (v : Verdict) → scoreIn (answerOf v) ≡ verdictMeans v
-score-read-back Ignored = refl
-score-read-back First = refl
-score-read-back Warming = refl
-score-read-back (Scored s) = refl
+pub score-read-back : (h : Heard) → scoreIn (answerOf h) ≡ rustScore h
+score-read-back ignored = refl
+score-read-back firstSample = refl
+score-read-back (warming z flag) = refl
+score-read-back (scored z flag) = refl
 
 -- a score is a finite number
-pub score-is-finite : (d : EwmaDetector) (value : Float) → finite (answerOf (updated d value .verdict) .«z_score») ≡ true
-score-is-finite d value = go (updated d value .verdict) refl
+pub score-is-finite : (d : EwmaDetector) (value : Float) → finite (answerOf (updated d value .said) .«z_score») ≡ true
+score-is-finite d value = go (updated d value .said) refl
   where
-    go : (v : Verdict) → updated d value .verdict ≡ v → finite (answerOf v .«z_score») ≡ true
-    go Ignored e = zero-finite
-    go First e = zero-finite
-    go Warming e = zero-finite
-    go (Scored s) e = scored-finite d value s e
+    go : (h : Heard) → updated d value .said ≡ h → finite (answerOf h .«z_score») ≡ true
+    go ignored e = zero-finite
+    go firstSample e = zero-finite
+    go (warming z flag) e = warming-finite d value z flag e
+    go (scored z flag) e = scored-finite d value z flag e
 
 -- ---- refusal 0 stands beside a detector with the settings asked for and nowhere else, so an answer tells all answers apart
 

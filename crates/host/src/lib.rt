@@ -1,7 +1,7 @@
 // What a host in C or Rust links, to make detectors that it keeps itself and to move them in place; hosts/include/shedgrommet_detector.h says it in C.
 // An enum cannot cross that border, so each answer is a struct of numbers.
 ghost use mathlib.Core.Path.{_≡_};
-ghost use Rattle.detector.specs.Answers.{madeMeans};
+ghost use Rattle.detector.specs.Answers.{madeMeans, verdictMeans};
 ghost use Rattle.detector.specs.Ewma.{idle, madeOf, updated, resetOf, recalibrated};
 ghost use Rattle.host.specs.Answers.{answerOf, answeredOf, handed};
 use detector::EwmaDetector;
@@ -32,7 +32,7 @@ struct Answered {
 
 // A verdict as a struct of numbers.
 fn answer_of(verdict: Verdict) -> SampleAnswer
-    ensures { λ r. ⌜ r ≡ answerOf verdict ⌝ }
+    ensures { λ r. ⌜ r ≡ answerOf (verdictMeans verdict) ⌝ }
 {
     match verdict {
         Verdict::Ignored => SampleAnswer {
@@ -128,7 +128,7 @@ pub extern "C" fn detector_with_options(
 // `update` for a host: one sample changes the lent detector in place.
 #[no_mangle]
 pub extern "C" fn detector_update(detector: &mut EwmaDetector, value: f32) -> SampleAnswer
-    ensures { λ r. ⌜ (now (detector .exit) ≡ updated (now (detector .entry)) value .detector) × (r ≡ answerOf (updated (now (detector .entry)) value .verdict)) ⌝ }
+    ensures { λ r. ⌜ (now (detector .exit) ≡ updated (now (detector .entry)) value .detector) × (r ≡ answerOf (updated (now (detector .entry)) value .said)) ⌝ }
 {
     let done = step(*detector, value);
     *detector = done.detector;

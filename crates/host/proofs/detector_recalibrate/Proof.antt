@@ -16,11 +16,11 @@ by-recalibrate = record {
   told = of-unit;
   still = refl;
   callee = callee.name;
-  made = recalibrated;
+  Promised = λ d n e. e ≡ recalibrated d n;
   new = all-of of-detector;
   answer = none-of of-detector;
   Said = λ d n d′ _. d′ ≡ recalibrated d n;
-  so = λ d n. refl;
+  so = λ d n e p. p;
 }
 
 pub detector-recalibrate-spec : {M : Type 1} → statement M

@@ -1,6 +1,7 @@
 -- `host::detector_set_freeze_duration` meets its contract: the detector that `with_duration` makes is stored over the lent one, and its refusal is the result. Assumes nothing.
-use mathlib.Core.Path.{_≡_, refl}
+use mathlib.Core.Path.{_≡_, refl, ap}
 use Rattle.detector.specs.Ewma.{resetOf}
+use Rattle.host.specs.declared.MadeDetector.{MadeDetector}
 use Rattle.host.specs.Answers.{handed}
 use Rattle.detector.proofs.Lent.{Struct, InPlace, of-struct, of-u32, of-detector, field-of, meets}
 use Rattle.host.proofs.MadeDetector as U
@@ -22,11 +23,11 @@ by-with-duration = record {
   told = of-u32;
   still = refl;
   callee = callee.name;
-  made = λ d n. handed d (resetOf d n);
+  Promised = λ d n u. u ≡ handed d (resetOf d n);
   new = field-of returned of-detector 1 (λ u. u .detector) refl (λ u all. all .1 .0) (λ u. refl);
   answer = field-of returned of-u32 0 (λ u. u .refusal) refl (λ u all. all .0) (λ u. refl);
   Said = λ d n d′ r. (d′ ≡ handed d (resetOf d n) .detector) × (r ≡ handed d (resetOf d n) .refusal);
-  so = λ d n. (refl, refl);
+  so = λ d n u e. (ap (λ (m : MadeDetector). m .detector) e, ap (λ (m : MadeDetector). m .refusal) e);
 }
 
 pub detector-set-freeze-duration-spec : {M : Type 1} → statement M

@@ -1,6 +1,7 @@
 -- `host::detector_update` meets its contract: the detector that `step` makes is stored over the lent one, and its answer is the result. Assumes nothing.
-use mathlib.Core.Path.{_≡_, refl}
+use mathlib.Core.Path.{_≡_, refl, ap}
 use Rattle.detector.specs.Ewma.{updated}
+use Rattle.host.specs.declared.Answered.{Answered}
 use Rattle.host.specs.Answers.{answerOf, answeredOf}
 use Rattle.detector.proofs.Lent.{Plain, Struct, InPlace, of-struct, of-f32, of-detector, field-of, meets}
 use Rattle.host.proofs.Answered as U
@@ -27,11 +28,11 @@ by-step = record {
   told = of-answer;
   still = refl;
   callee = callee.name;
-  made = λ d n. answeredOf (updated d n);
+  Promised = λ d n u. u ≡ answeredOf (updated d n);
   new = field-of returned of-detector 0 (λ u. u .detector) refl (λ u all. all .0) (λ u. refl);
   answer = field-of returned of-answer 1 (λ u. u .answer) refl (λ u all. all .1 .0) (λ u. refl);
-  Said = λ d n d′ r. (d′ ≡ updated d n .detector) × (r ≡ answerOf (updated d n .verdict));
-  so = λ d n. (refl, refl);
+  Said = λ d n d′ r. (d′ ≡ updated d n .detector) × (r ≡ answerOf (updated d n .said));
+  so = λ d n u e. (ap (λ (a : Answered). a .detector) e, ap (λ (a : Answered). a .answer) e);
 }
 
 pub detector-update-spec : {M : Type 1} → statement M

@@ -1,32 +1,31 @@
 -- Two results that a promise of this crate allows are equal, for each public call. Assumes nothing.
-use mathlib.Core.Path.{_≡_, sym, _∙_}
-use mathlib.Core.List.{List}
-use Prim.Native.Nat.{ℕ, min}
-use lib.Ieee.{Float}
-use lib.ListN.{length}
-use Rattle.conversion.specs.declared.SignalDefinition.{SignalDefinition}
-use Rattle.table.specs.declared.Defined.{Defined}
-use Rattle.table.specs.declared.SignalIdsEngine.{SignalIdsEngine}
-use Rattle.table.specs.Table.{live, tableOf, defined, created, define′, batch′, remove′}
+use mathlib.Core.Path.{sym, _∙_}
+use Rattle.bits.proofs.Promise.{Determines}
+use Rattle.table.proofs.SignalIdsEngine.new.Reads as new
+use Rattle.table.proofs.SignalIdsEngine.define_signal.Reads as define-signal
+use Rattle.table.proofs.SignalIdsEngine.define_signals_batch.Reads as define-signals-batch
+use Rattle.table.proofs.SignalIdsEngine.remove_signal.Reads as remove-signal
+use Rattle.table.proofs.SignalIdsEngine.signal_count.Reads as signal-count
+use Rattle.table.proofs.SignalIdsEngine.next_slot.Reads as next-slot
+use Rattle.table.proofs.clamp.Reads as clamp
 
-pub new-determined : (alpha threshold : Float) (a b : Defined) → a ≡ created alpha threshold → b ≡ created alpha threshold → a ≡ b
-new-determined alpha threshold a b p q = p ∙ sym q
+pub new-determined : Determines new.Learnt
+new-determined κs a r q s t p p′ = p ∙ sym p′
 
-module _ (e : SignalIdsEngine) where
-  pub define-signal-determined : (d : SignalDefinition) (a b : Defined) → a ≡ defined e (define′ (tableOf e) d) → b ≡ defined e (define′ (tableOf e) d) → a ≡ b
-  define-signal-determined d a b p q = p ∙ sym q
+pub define-signal-determined : Determines define-signal.Learnt
+define-signal-determined κs a r q s t p p′ = p ∙ sym p′
 
-  pub define-signals-batch-determined : (ds : List SignalDefinition) (n : ℕ) (a b : Defined) → a ≡ defined e (batch′ (tableOf e) ds n) → b ≡ defined e (batch′ (tableOf e) ds n) → a ≡ b
-  define-signals-batch-determined ds n a b p q = p ∙ sym q
+pub define-signals-batch-determined : Determines define-signals-batch.Learnt
+define-signals-batch-determined κs a r q s t p p′ = p ∙ sym p′
 
-  pub remove-signal-determined : (slot : ℕ) (a b : Defined) → a ≡ defined e (remove′ (tableOf e) slot) → b ≡ defined e (remove′ (tableOf e) slot) → a ≡ b
-  remove-signal-determined slot a b p q = p ∙ sym q
+pub remove-signal-determined : Determines remove-signal.Learnt
+remove-signal-determined κs a r q s t p p′ = p ∙ sym p′
 
-  pub signal-count-determined : (a b : ℕ) → a ≡ length (live e) → b ≡ length (live e) → a ≡ b
-  signal-count-determined a b p q = p ∙ sym q
+pub signal-count-determined : Determines signal-count.Learnt
+signal-count-determined κs a r q s t p p′ = p ∙ sym p′
 
-  pub next-slot-determined : (a b : ℕ) → a ≡ e .«next_slot» → b ≡ e .«next_slot» → a ≡ b
-  next-slot-determined a b p q = p ∙ sym q
+pub next-slot-determined : Determines next-slot.Learnt
+next-slot-determined κs a r q s t p p′ = p ∙ sym p′
 
-pub clamp-determined : (n a b : ℕ) → a ≡ min n 64 → b ≡ min n 64 → a ≡ b
-clamp-determined n a b p q = p ∙ sym q
+pub clamp-determined : Determines clamp.Learnt
+clamp-determined κs a r q s t p p′ = p ∙ sym p′

@@ -14,8 +14,8 @@ use Rattle.table.specs.declared.Signal.{Signal}
 use Rattle.table.specs.declared.Entry.{Entry}
 use Rattle.table.specs.declared.SignalIdsEngine.{SignalIdsEngine}
 use Rattle.table.specs.Rows.{every}
-use Rattle.table.specs.Table.{Table, Told, accepted, refused, tableOf, engineOf, emptyTable, withRows, defined, fault, entryOf, below, placedBehind, has, appended, appendedAll}
-use Rattle.table.specs.Calls.{TableCall, defines, batches, removes, told, left, after, ran, called}
+use Rattle.table.specs.Table.{Table, Told, accepted, refused, tableOf, emptyTable, withRows, defined, fault, entryOf, below, placedBehind, has, appended, appendedAll}
+use Rattle.table.specs.Calls.{TableCall, defines, batches, removes, told, left, after, Event, calls, moves, withDetector, happened, ran}
 use Rattle.table.specs.Regular.{Used, Proper, Regular}
 use Rattle.table.proofs.Laws.{length-insert, length-drop-first}
 use Rattle.table.proofs.Lists.{every-weaken, every-insert, every-drop, every-move, pairs-insert, pairs-drop, pairs-move, sorted-insert}
@@ -140,7 +140,7 @@ moves-keep t g same-id same-signal k =
           (k .proper);
     }
 
--- ---- any sequence of calls
+-- ---- any sequence of calls, with moves of the detectors between them
 pub after-keeps : (t : Table) (c : TableCall) → Regular t → Regular (after t c)
 after-keeps t c g = go (told t c) refl
   where
@@ -148,25 +148,22 @@ after-keeps t c g = go (told t c) refl
     go (accepted a u) e = accepted-keeps t c a u g e
     go (refused k) e = g
 
-pub ran-keeps : (cs : List TableCall) (t : Table) → Regular t → Regular (ran t cs)
+pub happened-keeps : (t : Table) (v : Event) → Regular t → Regular (happened t v)
+happened-keeps t (calls c) g = after-keeps t c g
+happened-keeps t (moves m) g = moves-keep t (withDetector m) (λ r. refl) (λ r. refl) g
+
+pub ran-keeps : (vs : List Event) (t : Table) → Regular t → Regular (ran t vs)
 ran-keeps [] t g = g
-ran-keeps (c ∷ cs) t g = ran-keeps cs (after t c) (after-keeps t c g)
+ran-keeps (v ∷ vs) t g = ran-keeps vs (happened t v) (happened-keeps t v g)
 
 pub empty-regular : (f : EwmaDetector) → Regular (emptyTable f)
 empty-regular f = record { few = omega arith; bound = omega arith; sorted = tt; apart = tt; proper = tt }
 
--- every table that calls make, from the one that `new` gives
-pub made-regular : (f : EwmaDetector) (cs : List TableCall) → Regular (ran (emptyTable f) cs)
-made-regular f cs = ran-keeps cs (emptyTable f) (empty-regular f)
+-- every table that calls make, from the one that `new` gives, whatever the detectors did between them
+pub made-regular : (f : EwmaDetector) (vs : List Event) → Regular (ran (emptyTable f) vs)
+made-regular f vs = ran-keeps vs (emptyTable f) (empty-regular f)
 
--- an engine under the promise of a call holds the table after the call, and so under any sequence of calls
+-- an engine under the promise of a call holds the table after the call
 pub follows : (e : SignalIdsEngine) (x : Told) → tableOf (defined e x .engine) ≡ left (tableOf e) x
 follows e (accepted a t) = table-engine t
 follows e (refused k) = refl
-
-pub called-ran : (cs : List TableCall) (e : SignalIdsEngine) → tableOf (called e cs) ≡ ran (tableOf e) cs
-called-ran [] e = refl
-called-ran (c ∷ cs) e = called-ran cs (defined e (told (tableOf e) c) .engine) ∙ ap (λ (t : Table). ran t cs) (follows e (told (tableOf e) c))
-
-pub called-regular : (f : EwmaDetector) (cs : List TableCall) → Regular (tableOf (called (engineOf (emptyTable f)) cs))
-called-regular f cs = subst Regular (sym (called-ran cs (engineOf (emptyTable f)) ∙ ap (λ (t : Table). ran t cs) (table-engine (emptyTable f)))) (made-regular f cs)

@@ -17,11 +17,11 @@ use Rattle.table.specs.declared.Signal.{Signal}
 use Rattle.table.specs.declared.Entry.{Entry}
 use Rattle.table.specs.Rows.{keep, some, dropFirst, insertBehind, every, among}
 use Rattle.table.specs.Table.{Table, Told, accepted, refused, emptyTable, entryOf, below, has, appended, appendedAll}
-use Rattle.table.specs.Calls.{TableCall, defines, batches, removes, told, left, ran, brought, numbered, given, granted}
+use Rattle.table.specs.Calls.{TableCall, defines, batches, removes, told, left, Event, calls, moves, withDetector, happened, ran, brought, numbered, given, granted}
 use Rattle.table.specs.Regular.{Apart, Rising, Regular}
-use Rattle.table.proofs.Lists.{every-weaken, every-append, every-insert, every-drop, pairs-append}
+use Rattle.table.proofs.Lists.{every-weaken, every-append, every-insert, every-drop, every-move, pairs-append}
 use Rattle.table.proofs.Accepted.{DefineAccepted, define-accepted, RemoveAccepted, remove-accepted, BatchAccepted, batch-accepted, slots-enough}
-use Rattle.table.proofs.Regular.{accepted-keeps, empty-regular}
+use Rattle.table.proofs.Regular.{accepted-keeps, happened-keeps, empty-regular}
 
 -- ---- numbered definitions
 numbered-from : (s : ℕ) (l : List SignalDefinition) → every (λ g. (s ≤ g .slot) × (g .slot < s + length l)) (numbered s l)
@@ -79,9 +79,10 @@ given-from t c u v =
     (numbered-from (t .next) (brought c)))
     (v .slots)
 
-pub granted-from : (cs : List TableCall) (t : Table) → Regular t → every (From (t .next)) (granted t cs)
+pub granted-from : (cs : List Event) (t : Table) → Regular t → every (From (t .next)) (granted t cs)
 granted-from [] t g = tt
-granted-from (c ∷ cs) t g = go (told t c) refl (λ u k. granted-from cs u k)
+granted-from (moves m ∷ cs) t g = granted-from cs (happened t (moves m)) (happened-keeps t (moves m) g)
+granted-from (calls c ∷ cs) t g = go (told t c) refl (λ u k. granted-from cs u k)
   where
     go : (x : Told) → told t c ≡ x → ((u : Table) → Regular u → every (From (u .next)) (granted u cs)) → every (From (t .next)) (given (t .next) (brought c) x ++ granted (left t x) cs)
     go (refused k) e rest = rest t g
@@ -92,9 +93,10 @@ granted-from (c ∷ cs) t g = go (told t c) refl (λ u k. granted-from cs u k)
         (every-weaken (From (u .next)) (From (t .next)) (λ s h. (omega (arith, v .next, h .0, h .1), omega (arith, v .next, h .1), h .2)) (granted u cs)
         (rest u (accepted-keeps t c a u g e)))
 
-pub granted-rising : (cs : List TableCall) (t : Table) → Regular t → Rising (granted t cs)
+pub granted-rising : (cs : List Event) (t : Table) → Regular t → Rising (granted t cs)
 granted-rising [] t g = tt
-granted-rising (c ∷ cs) t g = go (told t c) refl (λ u k. granted-rising cs u k)
+granted-rising (moves m ∷ cs) t g = granted-rising cs (happened t (moves m)) (happened-keeps t (moves m) g)
+granted-rising (calls c ∷ cs) t g = go (told t c) refl (λ u k. granted-rising cs u k)
   where
     go : (x : Told) → told t c ≡ x → ((u : Table) → Regular u → Rising (granted u cs)) → Rising (given (t .next) (brought c) x ++ granted (left t x) cs)
     go (refused k) e rest = rest t g
@@ -109,7 +111,7 @@ granted-rising (c ∷ cs) t g = go (told t c) refl (λ u k. granted-rising cs u 
         (rest u r)
 
 -- from the table that `new` gives: slots rise, so that none is given twice
-pub slots-rise : (f : EwmaDetector) (cs : List TableCall) → Rising (granted (emptyTable f) cs)
+pub slots-rise : (f : EwmaDetector) (cs : List Event) → Rising (granted (emptyTable f) cs)
 slots-rise f cs = granted-rising cs (emptyTable f) (empty-regular f)
 
 -- ---- each live row was given by a call
@@ -162,9 +164,11 @@ known-after t (removes s) a u g r e k =
     subst (λ (v : Table). Known (g ++ []) (v .rows)) (sym (f .table))
     (every-drop (λ q. among (q .signal) (g ++ [])) (has s) (t .rows) (known-more g [] (t .rows) k))
 
-pub ran-known : (cs : List TableCall) (t : Table) (g : List Signal) → Regular t → Known g (t .rows) → Known (g ++ granted t cs) (ran t cs .rows)
+pub ran-known : (cs : List Event) (t : Table) (g : List Signal) → Regular t → Known g (t .rows) → Known (g ++ granted t cs) (ran t cs .rows)
 ran-known [] t g r k = known-more g [] (t .rows) k
-ran-known (c ∷ cs) t g r k = go (told t c) refl (λ u h v m. ran-known cs u h v m)
+ran-known (moves m ∷ cs) t g r k =
+    ran-known cs (happened t (moves m)) g (happened-keeps t (moves m) r) (every-move (λ q. among (q .signal) g) (withDetector m) (λ q h. h) (t .rows) k)
+ran-known (calls c ∷ cs) t g r k = go (told t c) refl (λ u h v m. ran-known cs u h v m)
   where
     go : (x : Told)
         → told t c ≡ x
@@ -176,7 +180,7 @@ ran-known (c ∷ cs) t g r k = go (told t c) refl (λ u h v m. ran-known cs u h 
         (rest u (g ++ numbered (t .next) (brought c)) (accepted-keeps t c a u r e) (known-after t c a u g r e k))
 
 -- in every table that calls make, each live row has the slot and the definition that a call was given
-pub live-given : (f : EwmaDetector) (cs : List TableCall) → Known (granted (emptyTable f) cs) (ran (emptyTable f) cs .rows)
+pub live-given : (f : EwmaDetector) (cs : List Event) → Known (granted (emptyTable f) cs) (ran (emptyTable f) cs .rows)
 live-given f cs = ran-known cs (emptyTable f) [] (empty-regular f) tt
 
 -- and no other definition was given that slot
@@ -196,7 +200,7 @@ given-once (s ∷ l) a b r h k e = go h k (λ p q. given-once l a b (r .1) p q e
     go (inr p) (inr q) rest = rest p q
 
 -- ---- at most one row has a slot
-none-kept : (s : ℕ) (l : List Entry) → every (λ r. r .signal .slot ≡ s → ⊥) l → (keep (has s) l ≡ []) × (some (has s) l ≡ false)
+pub none-kept : (s : ℕ) (l : List Entry) → every (λ r. r .signal .slot ≡ s → ⊥) l → (keep (has s) l ≡ []) × (some (has s) l ≡ false)
 none-kept s [] h = (refl, refl)
 none-kept s (r ∷ l) h =
     let no : eqb (r .signal .slot) s ≡ false = ne-eqb (r .signal .slot) s (h .0) in

@@ -1,27 +1,25 @@
--- What follows of the promises: a definition that passes the tests, the count of rows, the end of the slots, and what an answer says.
+-- What follows of the promises: a definition that passes the tests, the count of rows, and what an answer says.
 -- Assumes nothing.
 use mathlib.Core.Path.{_≡_, refl, sym, ap, _∙_}
 use mathlib.Core.Bool.{Bool, true, false, cond}
-use mathlib.Core.List.{[], _∷_}
 use Prim.Native.Nat.{ℕ, _+_, _≤_}
-use native.Mathlib.Decide.{decLe}
 use native.Mathlib.Omega.{arith}
 use lib.Dec.{leb}
 use lib.Ieee.Scale.{finite}
 use lib.ListN.{length, take}
-use borrow.Author.Tests.{eq-eqb, leb-true}
+use borrow.Author.Tests.{leb-true}
 use Rattle.bits.proofs.Laws.{both-true}
 use Rattle.conversion.specs.declared.SignalDefinition.{SignalDefinition}
 use Rattle.table.specs.declared.Answer.{Answer}
 use Rattle.table.specs.declared.Answer.the-variants.{Slot, Done, Refused}
 use Rattle.table.specs.declared.SignalIdsEngine.{SignalIdsEngine}
 use Rattle.table.specs.Rows.{every}
-use Rattle.table.specs.Table.{Table, Told, accepted, refused, tableOf, defined, lengthOk, scaleOk, idOk, muxOk, signOk, fault, entryOf, below, has, define′, faults, slotsOk, batch′, appendedAll}
-use Rattle.table.specs.Calls.{TableCall, defines, batches, removes, told, brought, numbered, takenOut}
+use Rattle.table.specs.Table.{Table, Told, accepted, refused, tableOf, defined, lengthOk, scaleOk, idOk, muxOk, signOk, fault, entryOf, below, has}
+use Rattle.table.specs.Calls.{TableCall, defines, batches, removes, told, brought, takenOut}
 use Rattle.table.specs.Regular.{Proper, Regular}
 use Rattle.table.proofs.Laws.{length-insert, length-drop-first}
 use Rattle.table.proofs.Lists.{every-weaken}
-use Rattle.table.proofs.Answers.{length-appended, define-full, define-spent, batch-new}
+use Rattle.table.proofs.Answers.{length-appended}
 use Rattle.table.proofs.Accepted.{DefineAccepted, define-accepted, RemoveAccepted, remove-accepted, BatchAccepted, batch-accepted}
 
 -- ---- the five tests of document 01, of a definition that has no fault
@@ -81,32 +79,6 @@ count-after t (batches ds n) a u e =
 count-after t (removes s) a u e =
     let f : RemoveAccepted t s a u = remove-accepted t s a u e in
     omega (arith, ap (λ (v : Table). length (v .rows)) (f .table), length-drop-first (has s) (t .rows) (f .there))
-
--- ---- the end of the slots
--- at next slot 65,535 every define is refused: with its own fault, or with 4
-pub define-exhausted : (t : Table) (d : SignalDefinition) → fault d ≡ 0 → t .next ≡ 65535 → define′ t d ≡ refused 4
-define-exhausted t d ok end = go (decLe 64 (length (t .rows)))
-  where
-    go : Dec (64 ≤ length (t .rows)) → define′ t d ≡ refused 4
-    go (yes h) = define-full t d ok h
-    go (no h) = define-spent t d ok (omega arith) end
-
--- at next slot 65,534 a batch of two gets 65,534 and 65,535, and define is then refused
-pub last-slots : (t : Table) (a b : SignalDefinition)
-    → t .next ≡ 65534
-    → length (t .rows) ≤ 62
-    → fault a ≡ 0
-    → fault b ≡ 0
-    → (batch′ t (a ∷ b ∷ []) 2 ≡ accepted Done (appendedAll t (a ∷ b ∷ [])))
-    × (numbered (t .next) (a ∷ b ∷ []) ≡ record { slot = 65534; definition = a } ∷ record { slot = 65535; definition = b } ∷ [])
-    × ((d : SignalDefinition) → fault d ≡ 0 → define′ (appendedAll t (a ∷ b ∷ [])) d ≡ refused 4)
-unfolding slotsOk
-last-slots t a b end room p q =
-    let clean : faults (a ∷ b ∷ []) ≡ 0 = rw (eq-eqb (fault a) 0 p, eq-eqb (fault b) 0 q) in (
-      batch-new t (a ∷ b ∷ []) 2 (omega arith) clean (ap (slotsOk 2) end),
-      ap (λ (s : ℕ). numbered s (a ∷ b ∷ [])) end,
-      λ d ok. define-exhausted (appendedAll t (a ∷ b ∷ [])) d ok (omega arith),
-    )
 
 -- ---- an answer tells the case
 -- an accepted call answers no refusal

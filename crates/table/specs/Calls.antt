@@ -1,14 +1,14 @@
--- Document 01, "The table", over any sequence of table calls: the table that they leave and the slots that they give.
+-- Document 01, "The table", over any sequence of table calls, with frames between them: the table that they leave and the slots that they give.
 -- Assumes nothing.
 use mathlib.Core.List.{List, [], _∷_, _++_, map}
 use Prim.Native.Nat.{ℕ, _+_}
 use lib.ListN.{take}
 use Rattle.conversion.specs.declared.SignalDefinition.{SignalDefinition}
+use Rattle.detector.specs.declared.EwmaDetector.{EwmaDetector}
 use Rattle.table.specs.declared.Signal.{Signal}
 use Rattle.table.specs.declared.Entry.{Entry}
-use Rattle.table.specs.declared.SignalIdsEngine.{SignalIdsEngine}
 use Rattle.table.specs.Rows.{dropFirst}
-use Rattle.table.specs.Table.{Table, Told, accepted, refused, tableOf, defined, entryOf, has, define′, batch′, remove′}
+use Rattle.table.specs.Table.{Table, Told, accepted, refused, withRows, entryOf, has, define′, batch′, remove′}
 
 -- a table call, with its arguments
 pub data TableCall : Type 0 where
@@ -29,15 +29,22 @@ left t (refused k) = t
 abbrev pub after : Table → TableCall → Table
 after t c = left t (told t c)
 
--- the table after the calls, in their order
-abbrev pub ran : Table → List TableCall → Table
-ran t [] = t
-ran t (c ∷ cs) = ran (after t c) cs
+-- ---- what may happen to a table: a call; or detectors move, as at a frame, each to what m makes of its row, and all else of the row stays
+pub data Event : Type 0 where
+  calls : TableCall → Event
+  moves : (Entry → EwmaDetector) → Event
 
--- the same over engine values, each call answering as its promise says
-abbrev pub called : SignalIdsEngine → List TableCall → SignalIdsEngine
-called e [] = e
-called e (c ∷ cs) = called (defined e (told (tableOf e) c) .engine) cs
+abbrev pub withDetector : (Entry → EwmaDetector) → Entry → Entry
+withDetector m r = record { id = r .id; signal = r .signal; detector = m r }
+
+abbrev pub happened : Table → Event → Table
+happened t (calls c) = after t c
+happened t (moves m) = withRows t (map (withDetector m) (t .rows))
+
+-- the table after all of it, in order
+abbrev pub ran : Table → List Event → Table
+ran t [] = t
+ran t (v ∷ vs) = ran (happened t v) vs
 
 -- ---- the slots that calls give
 -- the definitions that a call brings
@@ -56,10 +63,14 @@ abbrev pub given : ℕ → List SignalDefinition → Told → List Signal
 given s l (accepted a u) = numbered s l
 given s l (refused k) = []
 
--- all that the calls give, in their order
-abbrev pub granted : Table → List TableCall → List Signal
+abbrev pub givenAt : Table → Event → List Signal
+givenAt t (calls c) = given (t .next) (brought c) (told t c)
+givenAt t (moves m) = []
+
+-- all that is given, in order
+abbrev pub granted : Table → List Event → List Signal
 granted t [] = []
-granted t (c ∷ cs) = given (t .next) (brought c) (told t c) ++ granted (after t c) cs
+granted t (v ∷ vs) = givenAt t v ++ granted (happened t v) vs
 
 -- ---- the rows that an accepted call puts in, and those that it leaves
 abbrev pub newRows : Table → List SignalDefinition → List Entry

@@ -2,7 +2,7 @@
 -- Assumes nothing.
 use mathlib.Core.Path.{_≡_, refl, sym, ap, _∙_}
 use mathlib.Core.Bool.{Bool, true, false, cond}
-use mathlib.Core.List.{List, [], _∷_, _++_, flatMap, append-nil}
+use mathlib.Core.List.{List, [], _∷_, _++_, map, flatMap, append-nil}
 use Prim.Native.Nat.{ℕ, _+_, _<_}
 use native.Mathlib.Omega.{arith}
 use lib.Dec.{ltb}
@@ -15,24 +15,29 @@ use Rattle.frames.specs.declared.Outcome.{Outcome}
 use Rattle.frames.specs.declared.Report.{Report}
 use Rattle.frames.specs.declared.SignalAnomaly.{SignalAnomaly}
 use Rattle.frames.specs.declared.SignalIdsResult.{SignalIdsResult}
-use Rattle.frames.specs.Frames.{outcomeMeans, anomaly, flagged, listed, blankAnomaly, blankReport, answered}
+use Rattle.frames.specs.Frames.{outcomeMeans, Reported, reportMeans, anomaly, flagged, listed, blankAnomaly, blankReport, Answered, resultMeans, answered}
+use Rattle.frames.proofs.Lists.{map-set, map-replicate}
 
 abbrev pub resultOf : List SignalAnomaly → ℕ → List Report → ℕ → SignalIdsResult
 resultOf anomalies c reports k = record { anomalies = anomalies; «anomaly_count» = c; reports = reports; «report_count» = k }
 
-four : {a b : List SignalAnomaly} {c d : ℕ} {r s : List Report} {j k : ℕ} → a ≡ b → c ≡ d → r ≡ s → j ≡ k → resultOf a c r j ≡ resultOf b d s k
+abbrev answerOf : List SignalAnomaly → ℕ → List Reported → ℕ → Answered
+answerOf anomalies c reports k = record { anomalies = anomalies; «anomaly_count» = c; reports = reports; «report_count» = k }
+
+four : {a b : List SignalAnomaly} {c d : ℕ} {r s : List Reported} {j k : ℕ} → a ≡ b → c ≡ d → r ≡ s → j ≡ k → answerOf a c r j ≡ answerOf b d s k
 four p q t u = cc
 
-pub blank-is : (a : SignalAnomaly) (r : Report) → a ≡ blankAnomaly → r ≡ blankReport → resultOf (replicate 8 a) 0 (replicate 64 r) 0 ≡ answered []
+pub blank-is : (a : SignalAnomaly) (r : Report) → a ≡ blankAnomaly → reportMeans r ≡ blankReport → resultMeans (resultOf (replicate 8 a) 0 (replicate 64 r) 0) ≡ answered []
 unfolding flatMap
-blank-is a r p q = four (ap (replicate 8) p ∙ pad-nil 8 blankAnomaly) refl (ap (replicate 64) q ∙ pad-nil 64 blankReport) refl
+blank-is a r p q =
+    four (ap (replicate 8) p ∙ pad-nil 8 blankAnomaly) refl (map-replicate reportMeans 64 r ∙ ap (replicate 64) q ∙ pad-nil 64 blankReport) refl
 
 -- where there is room, a report's anomaly is its outcome's
-pub raises : (r : Report) (k : ℕ) {o : Outcome} → k < 8 → r .outcome ≡ o → cond (ltb k 8) (flagged r) [] ≡ anomaly (r .slot) (outcomeMeans o)
+pub raises : (r : Report) (k : ℕ) {o : Outcome} → k < 8 → r .outcome ≡ o → cond (ltb k 8) (flagged (reportMeans r)) [] ≡ anomaly (r .slot) (outcomeMeans o)
 raises r k h e = chosen _ _ (lt-ltb k 8 h) ∙ ap (λ (q : Outcome). anomaly (r .slot) (outcomeMeans q)) e
 
 -- ---- a report has at most one anomaly
-flagged-more : (l : List Report) (r : Report) → flatMap flagged (l ++ (r ∷ [])) ≡ flatMap flagged l ++ flagged r
+flagged-more : (l : List Reported) (r : Reported) → flatMap flagged (l ++ (r ∷ [])) ≡ flatMap flagged l ++ flagged r
 flagged-more l r = flat-append flagged l (r ∷ []) ∙ ap (λ (z : List SignalAnomaly). flatMap flagged l ++ z) (flat-one flagged r)
 
 -- the room that is left is what `raised` asks for
@@ -46,14 +51,14 @@ room {k} {a} l h = go (ltb k 8) refl
         absurd (omega (arith, ap length none))
 
 -- an anomaly is listed: it is the report's, and there was room
-listed-one : (l : List Report) (r : Report) (a : SignalAnomaly) → (a ∷ []) ≡ cond (ltb (length (listed l)) 8) (flagged r) [] → listed (l ++ (r ∷ [])) ≡ listed l ++ (a ∷ [])
+listed-one : (l : List Reported) (r : Reported) (a : SignalAnomaly) → (a ∷ []) ≡ cond (ltb (length (listed l)) 8) (flagged r) [] → listed (l ++ (r ∷ [])) ≡ listed l ++ (a ∷ [])
 listed-one l r a h =
     let some : length (listed l) < 8 = room (flagged r) h in
     let is : flagged r ≡ (a ∷ []) = sym (h ∙ ap (λ (b : Bool). cond b (flagged r) []) (lt-ltb (length (listed l)) 8 some)) in
     ap (take 8) (flagged-more l r ∙ ap (λ (z : List SignalAnomaly). flatMap flagged l ++ z) is) ∙ take-room 8 (flatMap flagged l) a some
 
 -- none is listed: the report has none, or there was no room
-listed-none : (l : List Report) (r : Report) → [] ≡ cond (ltb (length (listed l)) 8) (flagged r) [] → listed (l ++ (r ∷ [])) ≡ listed l
+listed-none : (l : List Reported) (r : Reported) → [] ≡ cond (ltb (length (listed l)) 8) (flagged r) [] → listed (l ++ (r ∷ [])) ≡ listed l
 listed-none l r h = go (ltb (length (listed l)) 8) refl
   where
     go : (b : Bool) → ltb (length (listed l)) 8 ≡ b → listed (l ++ (r ∷ [])) ≡ listed l
@@ -63,36 +68,39 @@ listed-none l r h = go (ltb (length (listed l)) 8) refl
     go false e = ap (take 8) (flagged-more l r) ∙ take-full 8 (flatMap flagged l) (flagged r) (ltb-false (length (listed l)) 8 e)
 
 -- ---- one report more
-module _ (o : SignalIdsResult) (l : List Report) (r : Report) (is : o ≡ answered l) (few : length l < 64) where
-  count-is : o .«anomaly_count» ≡ length (listed l)
-  count-is = ap (λ (q : SignalIdsResult). q .«anomaly_count») is
+module _ (o : SignalIdsResult) (l : List Reported) (r : Report) (is : resultMeans o ≡ answered l) (few : length l < 64) where
+  abbrev told : Reported
+  told = reportMeans r
 
-  stored : (o .«report_count» + 1 ≡ length (l ++ (r ∷ []))) × (set (o .reports) (o .«report_count») r ≡ pad 64 blankReport (l ++ (r ∷ [])))
+  count-is : o .«anomaly_count» ≡ length (listed l)
+  count-is = ap (λ (q : Answered). q .«anomaly_count») is
+
+  stored : (o .«report_count» + 1 ≡ length (l ++ (told ∷ []))) × (set (map reportMeans (o .reports)) (o .«report_count») told ≡ pad 64 blankReport (l ++ (told ∷ [])))
   stored =
-      pushed 64 blankReport l r
-      (ap (λ (q : SignalIdsResult). q .reports) is)
-      (ap (λ (q : SignalIdsResult). q .«report_count») is)
-      (omega (arith, ap (λ (q : SignalIdsResult). q .«report_count») is))
+      pushed 64 blankReport l told
+      (ap (λ (q : Answered). q .reports) is)
+      (ap (λ (q : Answered). q .«report_count») is)
+      (omega (arith, ap (λ (q : Answered). q .«report_count») is))
       refl
 
-  pub one-quiet : {m : List Report}
-      → m ≡ l ++ (r ∷ [])
-      → [] ≡ cond (ltb (o .«anomaly_count») 8) (flagged r) []
-      → resultOf (o .anomalies) (o .«anomaly_count») (set (o .reports) (o .«report_count») r) (o .«report_count» + 1) ≡ answered m
+  pub one-quiet : {m : List Reported}
+      → m ≡ l ++ (told ∷ [])
+      → [] ≡ cond (ltb (o .«anomaly_count») 8) (flagged told) []
+      → resultMeans (resultOf (o .anomalies) (o .«anomaly_count») (set (o .reports) (o .«report_count») r) (o .«report_count» + 1)) ≡ answered m
   one-quiet e h =
-      let same : listed (l ++ (r ∷ [])) ≡ listed l = listed-none l r (h ∙ ap (λ (k : ℕ). cond (ltb k 8) (flagged r) []) count-is) in
+      let same : listed (l ++ (told ∷ [])) ≡ listed l = listed-none l told (h ∙ ap (λ (k : ℕ). cond (ltb k 8) (flagged told) []) count-is) in
       four
-      (ap (λ (q : SignalIdsResult). q .anomalies) is ∙ ap (pad 8 blankAnomaly) (sym same))
+      (ap (λ (q : Answered). q .anomalies) is ∙ ap (pad 8 blankAnomaly) (sym same))
       (count-is ∙ ap length (sym same))
-      (stored .1)
+      (map-set reportMeans (o .reports) (o .«report_count») r ∙ stored .1)
       (stored .0)
       ∙ ap answered (sym e)
 
-  pub one-listed : {m : List Report} (a : SignalAnomaly)
-      → m ≡ l ++ (r ∷ [])
-      → (a ∷ []) ≡ cond (ltb (o .«anomaly_count») 8) (flagged r) []
-      → resultOf (set (o .anomalies) (o .«anomaly_count») a) (o .«anomaly_count» + 1) (set (o .reports) (o .«report_count») r) (o .«report_count» + 1) ≡ answered m
+  pub one-listed : {m : List Reported} (a : SignalAnomaly)
+      → m ≡ l ++ (told ∷ [])
+      → (a ∷ []) ≡ cond (ltb (o .«anomaly_count») 8) (flagged told) []
+      → resultMeans (resultOf (set (o .anomalies) (o .«anomaly_count») a) (o .«anomaly_count» + 1) (set (o .reports) (o .«report_count») r) (o .«report_count» + 1)) ≡ answered m
   one-listed a e h =
-      let more : listed (l ++ (r ∷ [])) ≡ listed l ++ (a ∷ []) = listed-one l r a (h ∙ ap (λ (k : ℕ). cond (ltb k 8) (flagged r) []) count-is) in
-      let put = pushed 8 blankAnomaly (listed l) a (ap (λ (q : SignalIdsResult). q .anomalies) is) count-is (room (flagged r) h) more in
-      four (put .1) (put .0) (stored .1) (stored .0) ∙ ap answered (sym e)
+      let more : listed (l ++ (told ∷ [])) ≡ listed l ++ (a ∷ []) = listed-one l told a (h ∙ ap (λ (k : ℕ). cond (ltb k 8) (flagged told) []) count-is) in
+      let put = pushed 8 blankAnomaly (listed l) a (ap (λ (q : Answered). q .anomalies) is) count-is (room (flagged told) h) more in
+      four (put .1) (put .0) (map-set reportMeans (o .reports) (o .«report_count») r ∙ stored .1) (stored .0) ∙ ap answered (sym e)

@@ -6,21 +6,23 @@ use mathlib.Core.List.{List, [], _∷_}
 use Prim.Native.Nat.{ℕ}
 use native.Mathlib.Omega.{arith}
 use lib.Ieee.{Float}
+use lib.ListN.{length, length-map}
+use contract.Lifetimes.{Lfts}
 use Rattle.table.specs.declared.Answer.{Answer}
 use Rattle.table.specs.declared.Answer.the-variants.{Done, Refused}
 use Rattle.table.specs.declared.Defined.{Defined}
 use Rattle.table.specs.declared.SignalIdsEngine.{SignalIdsEngine}
 use Rattle.table.specs.Rows.{keep}
-use Rattle.table.specs.Table.{Table, Told, accepted, refused, tableOf, live, withRows, defined, created}
+use Rattle.table.specs.Table.{Table, Told, accepted, refused, tableOf, live, withRows, defined}
 use Rattle.table.specs.Calls.{told, left}
 use Rattle.table.proofs.Regular.{follows}
-use Rattle.frames.specs.declared.Report.{Report}
-use Rattle.frames.specs.Frames.{sameKey, effectiveOf, payloadOf, applies, multiplexorOf, advanced, reports, answered}
-use Rattle.frames.specs.Isolation.{Call, tabled, framed, rawFramed, Said, gave, saw, Run, said, after, answers, ran, concerns, answersTo, ofKey}
+use Rattle.frames.specs.Frames.{sameKey, effectiveOf, payloadOf, applies, multiplexorOf, advanced, Reported, reports, answered}
+use Rattle.frames.specs.Isolation.{Call, tabled, countAsked, nextAsked, framed, rawFramed, Said, gave, number, saw, said, after, answers, ran, concerns, answersTo, ofKey}
 use Rattle.frames.proofs.Theorems.{frame-table}
 use Rattle.frames.proofs.Rows.{key-is}
 use Rattle.frames.proofs.Blur.{blurred, blurTold, blurred-twice, told-blur, rows-other, advanced-blur, reports-blur, keep-blur}
-use Rattle.frames.proofs.Runs.{runs-follow}
+use Rattle.table.proofs.SignalIdsEngine.new.Reads as new
+use Rattle.frames.proofs.Compiled.{Run, runs-follow}
 
 module _ (id : ℕ) (x : Bool) where
   abbrev blurT : Table → Table
@@ -33,11 +35,15 @@ module _ (id : ℕ) (x : Bool) where
 
   saidT : Table → Call → Said
   saidT t (tabled c) = gave (answerOf (told t c))
+  saidT t countAsked = number (length (t .rows))
+  saidT t nextAsked = number (t .next)
   saidT t (framed f) = saw (answered (reports (effectiveOf f) (f .«is_extended») (f .«data») (payloadOf f) (t .rows)))
   saidT t (rawFramed i s n) = saw (answered (reports i false s n (t .rows)))
 
   afterT : Table → Call → Table
   afterT t (tabled c) = left t (told t c)
+  afterT t countAsked = t
+  afterT t nextAsked = t
   afterT t (framed f) = withRows t (advanced (effectiveOf f) (f .«is_extended») (f .«data») (payloadOf f) (t .rows))
   afterT t (rawFramed i s n) = withRows t (advanced i false s n (t .rows))
 
@@ -48,12 +54,16 @@ module _ (id : ℕ) (x : Bool) where
       at : (r : Told) → defined e r .answer ≡ answerOf r
       at (accepted a t) = refl
       at (refused k) = refl
+  said-table e countAsked = refl
+  said-table e nextAsked = refl
   said-table e (framed f) = refl
   said-table e (rawFramed i s n) = refl
 
   after-table : (e : SignalIdsEngine) (c : Call) → tableOf (after e c) ≡ afterT (tableOf e) c
   unfolding afterT
   after-table e (tabled c) = follows e (told (tableOf e) c)
+  after-table e countAsked = refl
+  after-table e nextAsked = refl
   after-table e (framed f) = frame-table e (effectiveOf f) (f .«is_extended») (f .«data») (payloadOf f)
   after-table e (rawFramed i s n) = frame-table e i false s n
 
@@ -94,19 +104,25 @@ module _ (id : ℕ) (x : Bool) where
   said-blur : (t : Table) (c : Call) → concerns id x c ≡ true → saidT t c ≡ saidT (blurT t) c
   unfolding saidT
   said-blur t (tabled c) h = ap gave (answer-blur (told t c) ∙ ap answerOf (sym (told-blur id x t c)))
-  said-blur t (framed f) h = ap (λ (l : List Report). saw (answered l)) (own-reports t (effectiveOf f) (f .«is_extended») (f .«data») (payloadOf f) h)
-  said-blur t (rawFramed i s n) h = ap (λ (l : List Report). saw (answered l)) (own-reports t i false s n h)
+  said-blur t countAsked h = ap number (sym (length-map (t .rows) _))
+  said-blur t nextAsked h = refl
+  said-blur t (framed f) h = ap (λ (l : List Reported). saw (answered l)) (own-reports t (effectiveOf f) (f .«is_extended») (f .«data») (payloadOf f) h)
+  said-blur t (rawFramed i s n) h = ap (λ (l : List Reported). saw (answered l)) (own-reports t i false s n h)
 
   after-blur : (t : Table) (c : Call) → concerns id x c ≡ true → blurT (afterT t c) ≡ blurT (afterT (blurT t) c)
   unfolding afterT
   after-blur t (tabled c) h =
       sym (blurred-twice id x (left t (told t c))) ∙ ap blurT (left-blur t (told t c) ∙ ap (left (blurT t)) (sym (told-blur id x t c)))
+  after-blur t countAsked h = sym (blurred-twice id x t)
+  after-blur t nextAsked h = sym (blurred-twice id x t)
   after-blur t (framed f) h = own-leaves t (effectiveOf f) (f .«is_extended») (f .«data») (payloadOf f) h
   after-blur t (rawFramed i s n) h = own-leaves t i false s n h
 
   gone : (t : Table) (c : Call) → concerns id x c ≡ false → blurT (afterT t c) ≡ blurT t
   unfolding afterT
   gone t (tabled c) h = let z : _≡_ {A = ℕ} 0 1 = cc in absurd (omega arith)
+  gone t countAsked h = let z : _≡_ {A = ℕ} 0 1 = cc in absurd (omega arith)
+  gone t nextAsked h = let z : _≡_ {A = ℕ} 0 1 = cc in absurd (omega arith)
   gone t (framed f) h = other-leaves t (effectiveOf f) (f .«is_extended») (f .«data») (payloadOf f) h
   gone t (rawFramed i s n) h = other-leaves t i false s n h
 
@@ -193,12 +209,12 @@ isolation id x {e} {z} {z′} {cs} {heard} {heard′} run run′ =
       ap (ofKey id x) (a .1) ∙ of-key-alike id x (ran e cs) (ran e (keep (concerns id x) cs)) (ran-alike id x cs e e refl) ∙ sym (ap (ofKey id x) (b .1)),
     )
 
--- so from every engine that `new` gives
-pub isolation-from-new : (alpha threshold : Float) (made : Defined)
-    → made ≡ created alpha threshold
+-- so from every engine that the compiled `new` gives
+pub isolation-from-new : (κs : Lfts 0) (alpha threshold : Float) (made : Defined) (out : _)
+    → new.Learnt κs (alpha, (threshold, tt)) made out
     → made .answer ≡ Done
     → (id : ℕ) (x : Bool) {z z′ : SignalIdsEngine} {cs : List Call} {heard heard′ : List Said}
     → Run (made .engine) cs heard z
     → Run (made .engine) (keep (concerns id x) cs) heard′ z′
     → (answersTo (concerns id x) cs heard ≡ heard′) × (ofKey id x z ≡ ofKey id x z′)
-isolation-from-new alpha threshold made h k id x run run′ = isolation id x run run′
+isolation-from-new κs alpha threshold made out h k id x run run′ = isolation id x run run′

@@ -1,119 +1,105 @@
--- The search for the multiplexor, from the last row to the first: the invariant of its loop, and each turn.
+-- The search for the multiplexor, from the first row to the last: the invariant of its loop, and each turn.
 -- Assumes nothing.
 use mathlib.Core.Path.{_≡_, refl, sym, ap, _∙_}
 use mathlib.Core.Bool.{Bool, true, false, cond}
-use mathlib.Core.List.{List, _∷_}
-use Prim.Native.Nat.{ℕ, suc, _-_, _≤_, _<_, min}
+use mathlib.Core.List.{List}
+use Prim.Native.Nat.{ℕ, _+_, _≤_, _<_}
 use native.Mathlib.Omega.{arith}
-use lib.Dec.{eqb}
-use lib.ListN.{getD, take, drop, length-take, take-append-drop, drop-of-length-le}
-use lib.Seq.{drop-cons}
+use lib.ListN.{getD, take, drop, drop-of-length-le}
+use lib.Seq.{take-all}
+use Rattle.conversion.specs.declared.SignalDefinition.{SignalDefinition}
 use Rattle.table.specs.declared.Entry.{Entry}
-use Rattle.table.specs.Table.{live}
-use Rattle.detector.proofs.Told.{other}
-use Rattle.table.proofs.Laws.{length-keep}
-use Rattle.table.proofs.Columns.{Sound, past, live-is}
+use Rattle.table.proofs.Laws.{first-hit, first-next}
+use Rattle.table.proofs.Columns.{Sound, past}
 use Rattle.frames.specs.declared.Multiplexor.{Multiplexor}
 use Rattle.frames.specs.declared.Multiplexor.the-variants.{Missing}
-use Rattle.frames.specs.Frames.{same, numberOf, multiplexorOf}
-use Rattle.frames.specs.Parts.{numberOr}
-use Rattle.frames.proofs.Lists.{tally, front-hit, front-miss}
-use Rattle.frames.proofs.Rows.{named, read, not-selecting, none-selects, Visit, rows, long, row-read, rows-all, hits-are}
+use Rattle.frames.specs.declared.Sought.the-variants.{Ends, GoesOn}
+use Rattle.frames.specs.Frames.{same, selects, numberOf, multiplexorOf}
+use Rattle.frames.specs.Parts.{rowFrom, soughtIn}
+use Rattle.frames.proofs.Lists.{first-gap}
+use Rattle.frames.proofs.Rows.{unnamed, read, with-id, not-selecting, Visit, rows, Here, long, row-read, row-from, arrives}
 
--- ---- one row more in front
-module _ (id : ℕ) (x : Bool) (s : List ℕ) (len : ℕ) (row : Entry) (l : List Entry) where
-  abbrev number : Multiplexor
-  number = numberOf s len (row .signal .definition)
+-- ---- one definition: of the frame's type or not, with the flag or not
+module _ (x : Bool) (s : List ℕ) (n : ℕ) (d : SignalDefinition) where
+  abbrev isMultiplexor : Bool
+  isMultiplexor = cond (same (d .«is_extended») x) (d .«is_multiplexor») false
 
-  pub mux-named : {m r : Multiplexor}
-      → eqb (row .id) id ≡ true
-      → m ≡ multiplexorOf id x s len l
-      → r ≡ numberOr m x s len (row .signal .definition)
-      → r ≡ multiplexorOf id x s len (row ∷ l)
-  unfolding numberOr
-  mux-named {m} h e g =
-      g
-      ∙ ap (λ (k : Multiplexor). cond (same (row .signal .definition .«is_extended») x) (cond (row .signal .definition .«is_multiplexor») number k) k) e
-      ∙ at (same (row .signal .definition .«is_extended») x)
-      ∙ ap
-      (λ (b : Bool).
-      cond (cond (cond b (same (row .signal .definition .«is_extended») x) false) (row .signal .definition .«is_multiplexor») false) number (multiplexorOf id x s len l))
-      (sym h)
+  ends : {m : Multiplexor} → Ends m ≡ soughtIn x s n d → (isMultiplexor ≡ true) × (m ≡ numberOf s n d)
+  ends {m} = at (same (d .«is_extended») x) (d .«is_multiplexor»)
     where
-      at : (b : Bool)
-          → cond b (cond (row .signal .definition .«is_multiplexor») number (multiplexorOf id x s len l)) (multiplexorOf id x s len l)
-          ≡ cond (cond b (row .signal .definition .«is_multiplexor») false) number (multiplexorOf id x s len l)
-      at true = refl
-      at false = refl
+      at : (a b : Bool) → Ends m ≡ cond a (cond b (Ends (numberOf s n d)) GoesOn) GoesOn → (cond a b false ≡ true) × (m ≡ numberOf s n d)
+      at true true h = (refl, cc)
+      at true false h = let z : _≡_ {A = ℕ} 0 1 = cc in absurd (omega arith)
+      at false b h = let z : _≡_ {A = ℕ} 0 1 = cc in absurd (omega arith)
 
-  pub mux-other : {m : Multiplexor} → eqb (row .id) id ≡ false → m ≡ multiplexorOf id x s len l → m ≡ multiplexorOf id x s len (row ∷ l)
-  mux-other h e = e ∙ sym (other _ _ (not-selecting id x row h))
+  goes : GoesOn ≡ soughtIn x s n d → isMultiplexor ≡ false
+  goes = at (same (d .«is_extended») x) (d .«is_multiplexor»)
+    where
+      at : (a b : Bool) → GoesOn ≡ cond a (cond b (Ends (numberOf s n d)) GoesOn) GoesOn → cond a b false ≡ false
+      at true true h = let z : _≡_ {A = ℕ} 0 1 = cc in absurd (omega arith)
+      at true false h = refl
+      at false b h = refl
 
--- ---- the loop: so many rows with the identifier stand before j, and the multiplexor of the rows from j on is known
+-- ---- the loop
 abbrev pub muxFrom : Visit → List Entry → Multiplexor
 muxFrom v = multiplexorOf (v .id) (v .extended) (v .bytes) (v .size)
 
-pub record Searching (v : Visit) (m : Multiplexor) (unseen j : ℕ) : Type 0 where
-  pub enough : unseen ≤ j
-  pub inside : j ≤ v .n
-  pub few : v .n ≤ 64
-  pub before : unseen ≡ tally (named (v .id)) (take j (rows v))
-  pub behind : m ≡ muxFrom v (drop j (rows v))
+-- the rows before k have no multiplexor
+pub record Searching (v : Visit) (k : ℕ) : Type 0 where
+  pub here : Here v k
+  pub none : muxFrom v (rows v) ≡ muxFrom v (drop k (rows v))
 
 module _ (v : Visit) (good : Sound (v .engine)) where
-  pub search-begins : {hits : ℕ} → v .n ≤ 64 → hits ≡ tally (λ k. eqb k (v .id)) (take (v .n) (v .engine .ids)) → Searching v Missing hits (v .n)
-  search-begins few h =
-      let all = h ∙ hits-are v good few ∙ ap (tally (named (v .id))) (sym (rows-all v good few)) in
+  -- from place i the search goes on at the next row with the identifier
+  goes-on : (i : ℕ) {k : ℕ}
+      → v .n ≤ 64
+      → i ≤ v .n
+      → k ≡ rowFrom i (v .n) (v .id) (v .engine .ids)
+      → muxFrom v (rows v) ≡ muxFrom v (drop i (rows v))
+      → Searching v k
+  goes-on i {k} few h e g =
       record {
-        enough = omega (arith, all, length-keep (named (v .id)) (take (v .n) (rows v)), length-take (v .n) (rows v));
-        inside = omega arith;
-        few = few;
-        before = all;
-        behind = ap (muxFrom v) (sym (drop-of-length-le (rows v) {i = v .n} (omega (arith, long v good few))));
+        here = arrives v good few i h e;
+        none =
+            g
+            ∙ first-gap (unnamed (v .id)) (selects (v .id) (v .extended)) (not-selecting (v .id) (v .extended)) (λ row. numberOf (v .bytes) (v .size) (row .signal .definition)) Missing (rows v) i
+            ∙ ap (λ (j : ℕ). muxFrom v (drop j (rows v))) (sym (e ∙ row-from v good few i));
       }
 
-  module _ {m : Multiplexor} {unseen j : ℕ} (inv : Searching v m unseen j) (more : 0 < unseen) where
-    some : 0 < j
-    some = omega arith
+  pub search-begins : {k : ℕ} → v .n ≤ 64 → k ≡ rowFrom 0 (v .n) (v .id) (v .engine .ids) → Searching v k
+  search-begins few e = goes-on 0 few (omega arith) e refl
 
-    here : getD (rows v) (j - 1) past ≡ read (v .engine) (j - 1)
-    here = row-read v good (inv .few) (j - 1) (omega arith)
+  module _ {k : ℕ} (inv : Searching v k) (more : k < v .n) where
+    -- row k by what the search has of it
+    here-selects : {b : Bool}
+        → isMultiplexor (v .extended) (v .bytes) (v .size) (read (v .engine) k .signal .definition) ≡ b
+        → selects (v .id) (v .extended) (getD (rows v) k past) ≡ b
+    here-selects h =
+        ap (selects (v .id) (v .extended)) (row-read v good (inv .here .few) k more)
+        ∙ ap (λ (a : Bool). cond a (read (v .engine) k .signal .definition .«is_multiplexor») false) (with-id (v .id) (v .extended) (read (v .engine) k) (inv .here .has-id more))
+        ∙ h
 
-    opened : drop (j - 1) (rows v) ≡ read (v .engine) (j - 1) ∷ drop j (rows v)
-    opened =
-        let e : suc (j - 1) ≡ j = omega arith in
-        drop-cons (rows v) (j - 1) past (omega (arith, long v good (inv .few)))
-        ∙ ap (λ (r : Entry). r ∷ drop (suc (j - 1)) (rows v)) here
-        ∙ ap (λ (k : ℕ). read (v .engine) (j - 1) ∷ drop k (rows v)) e
+    inside : take (v .n) (rows v) ≡ rows v
+    inside = take-all (v .n) (rows v) (omega (arith, long v good (inv .here .few)))
 
-    pub search-named : {r : Multiplexor}
-        → eqb (read (v .engine) (j - 1) .id) (v .id) ≡ true
-        → r ≡ numberOr m (v .extended) (v .bytes) (v .size) (read (v .engine) (j - 1) .signal .definition)
-        → Searching v r (unseen - 1) (j - 1)
-    search-named h g =
-        let fewer = front-hit (named (v .id)) (rows v) j past some (omega (arith, long v good (inv .few))) (ap (named (v .id)) here ∙ h) in
-        record {
-          enough = omega arith;
-          inside = omega arith;
-          few = inv .few;
-          before = omega (arith, inv .before, fewer);
-          behind = mux-named (v .id) (v .extended) (v .bytes) (v .size) (read (v .engine) (j - 1)) (drop j (rows v)) h (inv .behind) g ∙ ap (muxFrom v) (sym opened);
-        }
+    from-here : muxFrom v (rows v) ≡ muxFrom v (drop k (take (v .n) (rows v)))
+    from-here = inv .none ∙ ap (λ (l : List Entry). muxFrom v (drop k l)) (sym inside)
 
-    pub search-other : eqb (read (v .engine) (j - 1) .id) (v .id) ≡ false → Searching v m unseen (j - 1)
-    search-other h =
-        let same = inv .before ∙ front-miss (named (v .id)) (rows v) j past some (omega (arith, long v good (inv .few))) (ap (named (v .id)) here ∙ h) in
-        record {
-          enough = omega (arith, same, length-keep (named (v .id)) (take (j - 1) (rows v)), length-take (j - 1) (rows v));
-          inside = omega arith;
-          few = inv .few;
-          before = same;
-          behind = mux-other (v .id) (v .extended) (v .bytes) (v .size) (read (v .engine) (j - 1)) (drop j (rows v)) h (inv .behind) ∙ ap (muxFrom v) (sym opened);
-        }
+    pub search-ends : {m : Multiplexor} → Ends m ≡ soughtIn (v .extended) (v .bytes) (v .size) (read (v .engine) k .signal .definition) → m ≡ muxFrom v (rows v)
+    search-ends h =
+        let is = ends (v .extended) (v .bytes) (v .size) (read (v .engine) k .signal .definition) h in
+        is .1
+        ∙ ap (λ (row : Entry). numberOf (v .bytes) (v .size) (row .signal .definition)) (sym (row-read v good (inv .here .few) k more))
+        ∙ first-hit (selects (v .id) (v .extended)) (λ row. numberOf (v .bytes) (v .size) (row .signal .definition)) Missing (rows v) (v .n) k past more (omega (arith, long v good (inv .here .few))) (here-selects (is .0)) from-here
 
-  -- the rows in front that were not visited have no multiplexor
-  pub search-ends : {m : Multiplexor} {unseen j : ℕ} → Searching v m unseen j → unseen ≤ 0 → v .n ≡ min (v .engine .count) 64 → m ≡ muxFrom v (live (v .engine))
-  search-ends {m} {unseen} {j} inv none k =
-      inv .behind
-      ∙ sym (none-selects (v .id) (v .extended) (v .bytes) (v .size) (take j (rows v)) (drop j (rows v)) (omega (arith, inv .before)))
-      ∙ ap (muxFrom v) (take-append-drop j (rows v) ∙ live-is (v .engine) good (v .n) k)
+    pub search-on : {j : ℕ}
+        → GoesOn ≡ soughtIn (v .extended) (v .bytes) (v .size) (read (v .engine) k .signal .definition)
+        → j ≡ rowFrom (k + 1) (v .n) (v .id) (v .engine .ids)
+        → Searching v j
+    search-on h e =
+        goes-on (k + 1) (inv .here .few) (omega arith) e
+        (first-next (selects (v .id) (v .extended)) (λ row. numberOf (v .bytes) (v .size) (row .signal .definition)) Missing (rows v) (v .n) k past more (omega (arith, long v good (inv .here .few))) (here-selects (goes (v .extended) (v .bytes) (v .size) (read (v .engine) k .signal .definition) h)) from-here
+        ∙ ap (λ (l : List Entry). muxFrom v (drop (k + 1) l)) inside)
+
+  pub search-missing : {k : ℕ} → Searching v k → v .n ≤ k → Missing ≡ muxFrom v (rows v)
+  search-missing {k} inv end = sym (inv .none ∙ ap (muxFrom v) (drop-of-length-le (rows v) {i = k} (omega (arith, long v good (inv .here .few)))))

@@ -25,76 +25,38 @@ use Rattle.detector.proofs.Told.{chosen, other}
 use Rattle.table.proofs.Laws.{map-take}
 use Rattle.table.proofs.Columns.{Sound, detectors-are}
 use Rattle.table.proofs.Theorems.{passing}
-use Rattle.frames.specs.declared.CanFrame.{CanFrame}
 use Rattle.frames.specs.declared.Multiplexor.{Multiplexor}
 use Rattle.frames.specs.declared.Multiplexor.the-variants.{Number}
-use Rattle.frames.specs.declared.Outcome.{Outcome}
-use Rattle.frames.specs.declared.Outcome.the-variants.{PassedOver, NoValue, First, Warming, Scored}
-use Rattle.frames.specs.declared.Report.{Report}
-use Rattle.frames.specs.declared.Step.{Step}
-use Rattle.frames.specs.declared.Processed.{Processed}
-use Rattle.frames.specs.Frames.{payloadOf, effectiveOf, applies, numbered, numberOf, multiplexorOf, meets, sampled, stepRow, nextOf, advanced, reportOf, reports, Finding, passedOver, noValue, firstSample, warmingUp, scored, outcomeMeans, isFlagged, flags, anomaly, flagged, answered, moved, processed, processedFrame}
+use Rattle.frames.specs.Frames.{applies, numbered, numberOf, multiplexorOf, meets, Stepped, sampled, stepRow, nextOf, advanced, Reported, reportOf, reports, Finding, passedOver, noValue, firstSample, warmingUp, scored, isFlagged, flags, anomaly, flagged, answered, moved, processed}
 use Rattle.frames.proofs.Steps.{step-sampled}
 use Rattle.frames.proofs.Lists.{tally-cons}
 use Rattle.frames.proofs.Rows.{key-is, next-stays}
 use Rattle.frames.proofs.Moves.{withDetectors}
 
--- ---- a promise determines its answer: two results that it allows are equal
-pub frame-determined : (e : SignalIdsEngine) (f : CanFrame) (r q : Processed) → r ≡ processedFrame e f → q ≡ processedFrame e f → r ≡ q
-frame-determined e f r q h k = h ∙ sym k
-
-pub raw-frame-determined : (e : SignalIdsEngine) (id : ℕ) (s : List ℕ) (n : ℕ) (r q : Processed) → r ≡ processed e id false s n → q ≡ processed e id false s n → r ≡ q
-raw-frame-determined e id s n r q h k = h ∙ sym k
-
-pub payload-len-determined : (f : CanFrame) (r q : ℕ) → r ≡ payloadOf f → q ≡ payloadOf f → r ≡ q
-payload-len-determined f r q h k = h ∙ sym k
-
-pub effective-can-id-determined : (f : CanFrame) (r q : ℕ) → r ≡ effectiveOf f → q ≡ effectiveOf f → r ≡ q
-effective-can-id-determined f r q h k = h ∙ sym k
-
--- ---- an outcome's meaning tells the five cases and their values apart
-outcomeFor : Finding → Outcome
-outcomeFor passedOver = PassedOver
-outcomeFor noValue = NoValue
-outcomeFor (firstSample v) = First v
-outcomeFor (warmingUp v) = Warming v
-outcomeFor (scored v z flag) = Scored v z flag
-
-same-outcome : (o : Outcome) → outcomeFor (outcomeMeans o) ≡ o
-unfolding outcomeFor
-same-outcome PassedOver = refl
-same-outcome NoValue = refl
-same-outcome (First v) = refl
-same-outcome (Warming v) = refl
-same-outcome (Scored v z flag) = refl
-
-pub means-apart : (a b : Outcome) → outcomeMeans a ≡ outcomeMeans b → a ≡ b
-means-apart a b h = sym (same-outcome a) ∙ ap outcomeFor h ∙ same-outcome b
-
 -- ---- the count of anomalies is that of flagged outcomes, at most eight
-one-flag : (r : Report) → length (flagged r) ≡ cond (isFlagged (outcomeMeans (r .outcome))) 1 0
-one-flag r = at (r .outcome)
+one-flag : (r : Reported) → length (flagged r) ≡ cond (isFlagged (r .finding)) 1 0
+one-flag r = at (r .finding)
   where
     whether : (v z : _) (flag : Bool) → length (anomaly (r .slot) (scored v z flag)) ≡ cond flag 1 0
     whether v z true = refl
     whether v z false = refl
 
-    at : (o : Outcome) → length (anomaly (r .slot) (outcomeMeans o)) ≡ cond (isFlagged (outcomeMeans o)) 1 0
-    at PassedOver = refl
-    at NoValue = refl
-    at (First v) = refl
-    at (Warming v) = refl
-    at (Scored v z flag) = whether v z flag
+    at : (f : Finding) → length (anomaly (r .slot) f) ≡ cond (isFlagged f) 1 0
+    at passedOver = refl
+    at noValue = refl
+    at (firstSample v) = refl
+    at (warmingUp v) = refl
+    at (scored v z flag) = whether v z flag
 
-all-flags : (l : List Report) → length (flatMap flagged l) ≡ flags l
+all-flags : (l : List Reported) → length (flatMap flagged l) ≡ flags l
 unfolding flatMap
 all-flags [] = refl
 all-flags (r ∷ l) =
     length-append (flagged r) (flatMap flagged l)
     ∙ ap (λ (k : ℕ). k + length (flatMap flagged l)) (one-flag r)
-    ∙ ap (λ (k : ℕ). cond (isFlagged (outcomeMeans (r .outcome))) 1 0 + k) (all-flags l)
-    ∙ at (isFlagged (outcomeMeans (r .outcome)))
-    ∙ sym (tally-cons (λ q. isFlagged (outcomeMeans (q .outcome))) r l)
+    ∙ ap (λ (k : ℕ). cond (isFlagged (r .finding)) 1 0 + k) (all-flags l)
+    ∙ at (isFlagged (r .finding))
+    ∙ sym (tally-cons (λ q. isFlagged (q .finding)) r l)
   where
     at : (b : Bool) → cond b 1 0 + flags l ≡ cond b (suc (flags l)) (flags l)
     at true = omega arith
@@ -102,7 +64,7 @@ all-flags (r ∷ l) =
 
 pub anomaly-count : (e : SignalIdsEngine) (id : ℕ) (x : Bool) (s : List ℕ) (n : ℕ) → processed e id x s n .result .«anomaly_count» ≡ min (flags (reports id x s n (live e))) 8
 anomaly-count e id x s n =
-    let l : List Report = reports id x s n (live e) in
+    let l : List Reported = reports id x s n (live e) in
     length-take 8 (flatMap flagged l) ∙ ap (λ (k : ℕ). min 8 k) (all-flags l) ∙ (omega arith)
 
 pub few-anomalies : (e : SignalIdsEngine) (id : ℕ) (x : Bool) (s : List ℕ) (n : ℕ) → processed e id x s n .result .«anomaly_count» ≤ 8
@@ -112,11 +74,11 @@ few-anomalies e id x s n = omega (arith, anomaly-count e id x s n)
 abbrev pub slotOf : Entry → ℕ
 slotOf row = row .signal .slot
 
-slots-same : (s : List ℕ) (n : ℕ) (m : Multiplexor) (l : List Entry) → map (λ (r : Report). r .slot) (map (reportOf s n m) l) ≡ map slotOf l
+slots-same : (s : List ℕ) (n : ℕ) (m : Multiplexor) (l : List Entry) → map (λ (r : Reported). r .slot) (map (reportOf s n m) l) ≡ map slotOf l
 slots-same s n m [] = refl
 slots-same s n m (row ∷ l) = ap (λ (r : List ℕ). slotOf row ∷ r) (slots-same s n m l)
 
-pub one-report-each : (id : ℕ) (x : Bool) (s : List ℕ) (n : ℕ) (rows : List Entry) → map (λ (r : Report). r .slot) (reports id x s n rows) ≡ map slotOf (keep (applies id x) rows)
+pub one-report-each : (id : ℕ) (x : Bool) (s : List ℕ) (n : ℕ) (rows : List Entry) → map (λ (r : Reported). r .slot) (reports id x s n rows) ≡ map slotOf (keep (applies id x) rows)
 one-report-each id x s n rows = slots-same s n (multiplexorOf id x s n rows) (keep (applies id x) rows)
 
 -- ---- a row that applies takes its sample, whatever is listed: a ninth anomaly's detector moves as the first one's
@@ -127,7 +89,7 @@ pub applied-moves : (id : ℕ) (x : Bool) (s : List ℕ) (n : ℕ) (m : Multiple
     → nextOf id x s n m row .detector ≡ updated (row .detector) v .detector
 applied-moves id x s n m row v a b h =
     chosen (stepRow s n m row .detector) (row .detector) a
-    ∙ ap (λ (t : Step). t .detector) (step-sampled s n m (row .signal .definition) (row .detector) b ∙ ap (sampled (row .detector)) h)
+    ∙ ap (λ (t : Stepped). t .detector) (step-sampled s n m (row .signal .definition) (row .detector) b ∙ ap (sampled (row .detector)) h)
 
 -- ---- frames change detectors and nothing else
 module _ (f : Entry → Entry) (keeps : (row : Entry) → _≡_ {A = Entry} (record { id = row .id; signal = row .signal; detector = f row .detector }) (f row)) where

@@ -1,229 +1,194 @@
--- `frames::process` meets its contract. The first loop has looked for the multiplexor in the rows from `j` on (`Searching`), the second has moved the rows
--- before `next` and reported them (`Moving`); each turn is a lemma of Search or Moves.
+-- `frames::process` meets its contract. The loop has moved and reported the rows before `next` (`Moving`); each turn is a lemma of Moves.
 -- Assumes nothing.
 use mathlib.Core.Path.{sym, ap, _∙_}
 use Prim.Native.Nat.{_<_, _-_}
 use native.Mathlib.Omega.{arith}
 use borrow.Author.Needs.{needs}
-use borrow.Author.Tests.{eq-eqb, ne-eqb, not-true, not-false}
+use borrow.Author.Tests.{not-true, not-false}
 use denote.Ref.{now}
+use lib.ListN.{length}
 use Rattle.table.proofs.Columns.{Sound, sound-of}
 use Rattle.frames.specs.Parts.{raisedOf}
 use Rattle.frames.proofs.Answers.{room}
 use Rattle.frames.proofs.Rows.{Visit}
-use Rattle.frames.proofs.Search.{Searching, search-begins, search-named, search-other, search-ends}
-use Rattle.frames.proofs.Moves.{Moving, Applied, moving-begins, room-for-report, other-id, other-type, moves-quiet, moves-listed, moving-ends}
+use Rattle.frames.proofs.Moves.{Moving, Applied, moving-begins, room-for-report, ids-stay, other-type, next-here, engine-moves, result-quiet, result-listed, moving-ends}
 use Rattle.frames.proofs.process.Statement.{statement}
 use Rattle.frames.proofs.process.Tie as tie
 
 abbrev Inv-loop : tie.InvT-loop
-Inv-loop id extended bytes data-len engine result n hits m₀ unseen₀ j₀ m unseen j =
-    Searching (record { engine = engine; n = n; id = id; extended = extended; bytes = bytes; size = data-len }) m unseen j
+Inv-loop key bytes data-len engine₀ result₀ n first m next₀ engine result next =
+    Moving (record { engine = engine₀; n = n; id = key .id; extended = key .extended; bytes = bytes; size = data-len }) m engine result next
 
 abbrev μ-loop : tie.MeasureT-loop
-μ-loop id extended bytes data-len engine result n hits m₀ unseen₀ j₀ m unseen j = j
+μ-loop key bytes data-len engine₀ result₀ n first m next₀ engine result next = n - next
 
-abbrev Inv-loop2 : tie.InvT-loop2
-Inv-loop2 id extended bytes data-len engine₀ result₀ n hits m unseen j left₀ next₀ engine result left next =
-    Moving (record { engine = engine₀; n = n; id = id; extended = extended; bytes = bytes; size = data-len }) m engine result left next
-
-abbrev μ-loop2 : tie.MeasureT-loop2
-μ-loop2 id extended bytes data-len engine₀ result₀ n hits m unseen j left₀ next₀ engine result left next = n - next
-
--- the rows and the frame that both loops are over
-abbrev visited : tie.After-clamp Inv-loop μ-loop Inv-loop2 μ-loop2 → Visit
+-- the rows and the frame that the loop is over
+abbrev visited : tie.After-clamp Inv-loop μ-loop → Visit
 visited c =
     let a = c .before .before .before .args in
-    record { engine = a .t1; n = c .clamp .result; id = a .id; extended = a .extended; bytes = now (a .bytes); size = a .data-len }
+    record { engine = a .t1; n = c .clamp .result; id = a .key .id; extended = a .key .extended; bytes = now (a .bytes); size = a .data-len }
 
-columns : (c : tie.After-clamp Inv-loop μ-loop Inv-loop2 μ-loop2) → Sound (visited c .engine)
+columns : (c : tie.After-clamp Inv-loop μ-loop) → Sound (visited c .engine)
 columns c = sound-of _ (c .before .before .before .good .0)
 
--- the row that both of the last answers are about
-applied : (c : tie.After-report-of Inv-loop μ-loop Inv-loop2 μ-loop2)
-    → Applied (visited (c .before .before .before .before .before .before .before .before .before .before .before .before .before .before .before .before .before)) (c .before .before .before .before .before .before .before .before .before .before .before .before .loop .m) (c .before .before .before .before .before .before .before .before .before .before .loop2 .engine) (c .before .before .before .before .before .before .before .before .before .before .loop2 .next) (c .before .before .stepped .result) (c .report-of .result)
+abbrev clamped : tie.At-loop Inv-loop μ-loop → tie.After-clamp Inv-loop μ-loop
+clamped c = c .before .before .before .before .before .before .before .before .before .before
+
+-- the row of a turn, its report and its anomaly have a place
+row-fits : (c : tie.In-loop Inv-loop μ-loop) → c .before .loop .next < 64
+row-fits c = omega (arith, c .loop-test .taken, c .before .loop .inv .here)
+
+report-fits : (c : tie.In-loop Inv-loop μ-loop) → c .before .loop .result .«report_count» < 64
+report-fits c =
+    let turn = c .before in
+    omega (arith, room-for-report (visited (clamped turn)) (columns (clamped turn)) (turn .before .multiplexor-number .result) (turn .loop .inv), row-fits c)
+
+no-reports-requires : tie.Need-no-reports-requires Inv-loop μ-loop
+no-reports-requires c κs = search needs
+
+clamp-requires : tie.Need-clamp-requires Inv-loop μ-loop
+clamp-requires c κs = search needs
+
+row-with-requires : tie.Need-row-with-requires Inv-loop μ-loop
+row-with-requires c κs =
+    let clamped = c .before .before .before in
+    (omega arith, omega (arith, clamped .clamp .ensures, columns clamped .ids-64))
+
+multiplexor-number-requires : tie.Need-multiplexor-number-requires Inv-loop μ-loop
+multiplexor-number-requires c κs =
+    let clamped = c .before .before .before .before .before .before .before .before in
+    (omega (arith, clamped .clamp .ensures), columns clamped .ids-64, c .before .before .before .before .row-with .ensures)
+
+loop-holds : tie.Need-loop-holds Inv-loop μ-loop
+loop-holds c =
+    let clamped = c .before .before .before .before .before .before .before .before .before in
+    moving-begins (visited clamped) (columns clamped) (c .multiplexor-number .result) (omega (arith, clamped .clamp .ensures)) (c .before .before .before .before .before .row-with .ensures) (c .before .before .before .before .before .before .before .before .before .before .no-reports .ensures)
+
+add-row-with : tie.Need-add-row-with Inv-loop μ-loop
+add-row-with c = omega (arith, row-fits (c .before .before .before))
+
+row-with-requires-2 : tie.Need-row-with-requires-2 Inv-loop μ-loop
+row-with-requires-2 c κs =
+    let turn = c .before .before .before .before in
+    let same = ids-stay (visited (clamped turn)) (columns (clamped turn)) (turn .before .multiplexor-number .result) (turn .loop .inv) in
+    (omega (arith, c .before .before .before .loop-test .taken), omega (arith, turn .loop .inv .here, ap length same, columns (clamped turn) .ids-64))
+
+mul-signal : tie.Need-mul-signal Inv-loop μ-loop
+mul-signal c = omega (arith, row-fits (c .before .before .before .before))
+
+element-copy-out-signal : tie.Need-element-copy-out-signal Inv-loop μ-loop
+element-copy-out-signal c = omega (arith, row-fits (c .before .before .before .before))
+
+is-typed-requires : tie.Need-is-typed-requires Inv-loop μ-loop
+is-typed-requires c κs = search needs
+
+loop-less : tie.Need-loop-less Inv-loop μ-loop
+loop-less c = omega (arith, c .before .before .before .before .before .before .before .loop-test .taken, c .before .before .before .row-with2 .ensures)
+
+loop-again : tie.Need-loop-again Inv-loop μ-loop
+loop-again c =
+    let turn = c .before .before .before .before .before .before .before .before in
+    other-type (visited (clamped turn)) (columns (clamped turn)) (turn .before .multiplexor-number .result) (turn .loop .inv) (c .before .before .before .before .before .before .before .loop-test .taken) (c .before .before .before .row-with2 .ensures) (sym (c .before .is-typed .ensures) ∙ not-true (c .before .is-typed .result) (c .if1 .taken))
+
+mul-detector : tie.Need-mul-detector Inv-loop μ-loop
+mul-detector c = omega (arith, row-fits (c .before .before .before .before .before .before .before))
+
+element-copy-out-detector : tie.Need-element-copy-out-detector Inv-loop μ-loop
+element-copy-out-detector c = omega (arith, row-fits (c .before .before .before .before .before .before .before))
+
+stepped-requires : tie.Need-stepped-requires Inv-loop μ-loop
+stepped-requires c κs = search needs
+
+mul-moved : tie.Need-mul-moved Inv-loop μ-loop
+mul-moved c = omega (arith, row-fits (c .before .before .before .before .before .before .before .before .before .before))
+
+element-set-from-moved : tie.Need-element-set-from-moved Inv-loop μ-loop
+element-set-from-moved c = omega (arith, row-fits (c .before .before .before .before .before .before .before .before .before .before))
+
+report-of-requires : tie.Need-report-of-requires Inv-loop μ-loop
+report-of-requires c κs = search needs
+
+-- the row of a turn that applies
+abbrev began : tie.After-report-of Inv-loop μ-loop → tie.In-loop Inv-loop μ-loop
+began c = c .before .before .before .before .before .before .before .before .before .before .before
+
+applied : (c : tie.After-report-of Inv-loop μ-loop)
+    → Applied (visited (clamped (began c .before))) (began c .before .before .multiplexor-number .result) (began c .before .loop .engine) (began c .before .loop .next) (c .before .before .stepped .result) (c .report-of .result)
 applied c =
     let typed = c .before .before .before .before in
     record {
-      has-id = eq-eqb _ _ (typed .before .before .before .if2 .left);
-      has-type = sym (typed .before .is-typed .ensures) ∙ not-false _ (typed .if3 .left);
+      has-type = sym (typed .before .is-typed .ensures) ∙ not-false (typed .before .is-typed .result) (typed .if1 .left);
       is = c .before .before .stepped .ensures;
       reported = c .report-of .ensures;
     }
 
--- there is a place for the row's report, and for the anomaly that was found
-report-fits : (c : tie.After-report-of Inv-loop μ-loop Inv-loop2 μ-loop2) → c .before .before .before .before .before .before .before .before .before .before .loop2 .result .«report_count» < 64
-report-fits c =
-    let turn = c .before .before .before .before .before .before .before .before .before .before .loop2 in
-    let clamped = c .before .before .before .before .before .before .before .before .before .before .before .before .before .before .before .before .before in
-    omega (arith, room-for-report (visited clamped) (columns clamped) (c .before .before .before .before .before .before .before .before .before .before .before .before .loop .m) (turn .inv), c .before .before .before .before .before .before .before .before .before .loop2-test .taken, turn .inv)
+mul-report : tie.Need-mul-report Inv-loop μ-loop
+mul-report c = omega (arith, report-fits (began c))
 
-anomaly-fits : (c : tie.After-anomaly Inv-loop μ-loop Inv-loop2 μ-loop2) → c .before .before .before .before .before .before .before .before .before .before .before .before .before .loop2 .result .«anomaly_count» < 8
-anomaly-fits c = room _ (ap raisedOf (sym (c .anomaly .given .1)) ∙ c .before .before .raised .ensures)
+element-set-from-report : tie.Need-element-set-from-report Inv-loop μ-loop
+element-set-from-report c = omega (arith, report-fits (began c))
 
-no-reports-requires : tie.Need-no-reports-requires Inv-loop μ-loop Inv-loop2 μ-loop2
-no-reports-requires c κs = search needs
+add-result : tie.Need-add-result Inv-loop μ-loop
+add-result c = omega (arith, report-fits (began c))
 
-clamp-requires : tie.Need-clamp-requires Inv-loop μ-loop Inv-loop2 μ-loop2
-clamp-requires c κs = search needs
-
-count-equal-requires : tie.Need-count-equal-requires Inv-loop μ-loop Inv-loop2 μ-loop2
-count-equal-requires c κs = omega (arith, c .before .before .before .clamp .ensures, columns (c .before .before .before) .ids-64)
-
-loop-holds : tie.Need-loop-holds Inv-loop μ-loop Inv-loop2 μ-loop2
-loop-holds c =
-    let clamped = c .before .before .before .before in
-    search-begins (visited clamped) (columns clamped) (omega (arith, clamped .clamp .ensures)) (c .count-equal .ensures)
-
-sub-j : tie.Need-sub-j Inv-loop μ-loop Inv-loop2 μ-loop2
-sub-j c = omega (arith, c .loop-test .taken, c .before .loop .inv)
-
-mul-if1 : tie.Need-mul-if1 Inv-loop μ-loop Inv-loop2 μ-loop2
-mul-if1 c = omega (arith, c .loop-test .taken, c .before .loop .inv)
-
-element-copy-out-if1 : tie.Need-element-copy-out-if1 Inv-loop μ-loop Inv-loop2 μ-loop2
-element-copy-out-if1 c = omega (arith, c .loop-test .taken, c .before .loop .inv)
-
-sub-unseen : tie.Need-sub-unseen Inv-loop μ-loop Inv-loop2 μ-loop2
-sub-unseen c = omega (arith, c .before .before .loop-test .taken, c .before .before .before .loop .inv)
-
-mul-signal : tie.Need-mul-signal Inv-loop μ-loop Inv-loop2 μ-loop2
-mul-signal c = omega (arith, c .before .before .loop-test .taken, c .before .before .before .loop .inv)
-
-element-copy-out-signal : tie.Need-element-copy-out-signal Inv-loop μ-loop Inv-loop2 μ-loop2
-element-copy-out-signal c = omega (arith, c .before .before .loop-test .taken, c .before .before .before .loop .inv)
-
-selected-requires : tie.Need-selected-requires Inv-loop μ-loop Inv-loop2 μ-loop2
-selected-requires c κs = search needs
-
-loop-less : tie.Need-loop-less Inv-loop μ-loop Inv-loop2 μ-loop2
-loop-less c = omega (arith, c .before .before .before .before .loop-test .taken, c .before .before .before .before .before .loop .inv)
-
-loop-again : tie.Need-loop-again Inv-loop μ-loop Inv-loop2 μ-loop2
-loop-again c =
-    let clamped = c .before .before .before .before .before .before .before .before .before .before in
-    search-named (visited clamped) (columns clamped) (c .before .before .before .before .before .loop .inv) (omega (arith, c .before .before .before .before .loop-test .taken)) (eq-eqb _ _ (c .before .before .if1 .taken)) (c .selected .ensures)
-
-loop-less-2 : tie.Need-loop-less-2 Inv-loop μ-loop Inv-loop2 μ-loop2
-loop-less-2 c = omega (arith, c .before .before .loop-test .taken, c .before .before .before .loop .inv)
-
-loop-again-2 : tie.Need-loop-again-2 Inv-loop μ-loop Inv-loop2 μ-loop2
-loop-again-2 c =
-    let clamped = c .before .before .before .before .before .before .before .before in
-    search-other (visited clamped) (columns clamped) (c .before .before .before .loop .inv) (omega (arith, c .before .before .loop-test .taken)) (ne-eqb _ _ (c .if1 .left))
-
-loop2-holds : tie.Need-loop2-holds Inv-loop μ-loop Inv-loop2 μ-loop2
-loop2-holds c =
-    let clamped = c .before .before .before .before .before .before in
-    moving-begins (visited clamped) (columns clamped) (c .before .loop .m) (c .before .loop .inv .few) (c .before .before .count-equal .ensures) (c .before .before .before .before .before .before .before .no-reports .ensures)
-
-add-next : tie.Need-add-next Inv-loop μ-loop Inv-loop2 μ-loop2
-add-next c = omega (arith, c .loop2-test .taken, c .before .loop2 .inv)
-
-mul-if2 : tie.Need-mul-if2 Inv-loop μ-loop Inv-loop2 μ-loop2
-mul-if2 c = omega (arith, c .loop2-test .taken, c .before .loop2 .inv)
-
-element-copy-out-if2 : tie.Need-element-copy-out-if2 Inv-loop μ-loop Inv-loop2 μ-loop2
-element-copy-out-if2 c = omega (arith, c .loop2-test .taken, c .before .loop2 .inv)
-
-loop2-less : tie.Need-loop2-less Inv-loop μ-loop Inv-loop2 μ-loop2
-loop2-less c = omega (arith, c .before .before .loop2-test .taken, c .before .before .before .loop2 .inv)
-
-loop2-again : tie.Need-loop2-again Inv-loop μ-loop Inv-loop2 μ-loop2
-loop2-again c =
-    let clamped = c .before .before .before .before .before .before .before .before .before .before in
-    other-id (visited clamped) (columns clamped) (c .before .before .before .before .before .loop .m) (c .before .before .before .loop2 .inv) (omega (arith, c .before .before .loop2-test .taken)) (ne-eqb _ _ (c .if2 .taken))
-
-sub-left : tie.Need-sub-left Inv-loop μ-loop Inv-loop2 μ-loop2
-sub-left c = omega (arith, c .before .before .loop2-test .taken, c .before .before .before .loop2 .inv)
-
-mul-signal-2 : tie.Need-mul-signal-2 Inv-loop μ-loop Inv-loop2 μ-loop2
-mul-signal-2 c = omega (arith, c .before .before .loop2-test .taken, c .before .before .before .loop2 .inv)
-
-element-copy-out-signal-2 : tie.Need-element-copy-out-signal-2 Inv-loop μ-loop Inv-loop2 μ-loop2
-element-copy-out-signal-2 c = omega (arith, c .before .before .loop2-test .taken, c .before .before .before .loop2 .inv)
-
-is-typed-requires : tie.Need-is-typed-requires Inv-loop μ-loop Inv-loop2 μ-loop2
-is-typed-requires c κs = search needs
-
-loop2-less-2 : tie.Need-loop2-less-2 Inv-loop μ-loop Inv-loop2 μ-loop2
-loop2-less-2 c = omega (arith, c .before .before .before .before .before .loop2-test .taken, c .before .before .before .before .before .before .loop2 .inv)
-
-loop2-again-2 : tie.Need-loop2-again-2 Inv-loop μ-loop Inv-loop2 μ-loop2
-loop2-again-2 c =
-    let clamped = c .before .before .before .before .before .before .before .before .before .before .before .before .before in
-    other-type (visited clamped) (columns clamped) (c .before .before .before .before .before .before .before .before .loop .m) (c .before .before .before .before .before .before .loop2 .inv) (omega (arith, c .before .before .before .before .before .loop2-test .taken)) (eq-eqb _ _ (c .before .before .before .if2 .left)) (sym (c .before .is-typed .ensures) ∙ not-true _ (c .if3 .taken))
-
-mul-detector : tie.Need-mul-detector Inv-loop μ-loop Inv-loop2 μ-loop2
-mul-detector c = omega (arith, c .before .before .before .before .before .loop2-test .taken, c .before .before .before .before .before .before .loop2 .inv)
-
-element-copy-out-detector : tie.Need-element-copy-out-detector Inv-loop μ-loop Inv-loop2 μ-loop2
-element-copy-out-detector c = omega (arith, c .before .before .before .before .before .loop2-test .taken, c .before .before .before .before .before .before .loop2 .inv)
-
-stepped-requires : tie.Need-stepped-requires Inv-loop μ-loop Inv-loop2 μ-loop2
-stepped-requires c κs = search needs
-
-mul-moved : tie.Need-mul-moved Inv-loop μ-loop Inv-loop2 μ-loop2
-mul-moved c = omega (arith, c .before .before .before .before .before .before .before .before .loop2-test .taken, c .before .before .before .before .before .before .before .before .before .loop2 .inv)
-
-element-set-from-moved : tie.Need-element-set-from-moved Inv-loop μ-loop Inv-loop2 μ-loop2
-element-set-from-moved c = omega (arith, c .before .before .before .before .before .before .before .before .loop2-test .taken, c .before .before .before .before .before .before .before .before .before .loop2 .inv)
-
-report-of-requires : tie.Need-report-of-requires Inv-loop μ-loop Inv-loop2 μ-loop2
-report-of-requires c κs = search needs
-
-mul-report : tie.Need-mul-report Inv-loop μ-loop Inv-loop2 μ-loop2
-mul-report c = omega (arith, report-fits c)
-
-element-set-from-report : tie.Need-element-set-from-report Inv-loop μ-loop Inv-loop2 μ-loop2
-element-set-from-report c = omega (arith, report-fits c)
-
-add-result : tie.Need-add-result Inv-loop μ-loop Inv-loop2 μ-loop2
-add-result c = omega (arith, report-fits c)
-
-raised-requires : tie.Need-raised-requires Inv-loop μ-loop Inv-loop2 μ-loop2
+raised-requires : tie.Need-raised-requires Inv-loop μ-loop
 raised-requires c κs = search needs
 
-enum-known-anomaly : tie.Need-enum-known-anomaly Inv-loop μ-loop Inv-loop2 μ-loop2
+enum-known-anomaly : tie.Need-enum-known-anomaly Inv-loop μ-loop
 enum-known-anomaly c = search needs
 
-mul-anomaly : tie.Need-mul-anomaly Inv-loop μ-loop Inv-loop2 μ-loop2
+anomaly-fits : (c : tie.After-anomaly Inv-loop μ-loop) → began (c .before .before .before) .before .loop .result .«anomaly_count» < 8
+anomaly-fits c = room _ (ap raisedOf (sym (c .anomaly .given .1)) ∙ c .before .before .raised .ensures)
+
+mul-anomaly : tie.Need-mul-anomaly Inv-loop μ-loop
 mul-anomaly c = omega (arith, anomaly-fits (c .before))
 
-element-set-from-anomaly : tie.Need-element-set-from-anomaly Inv-loop μ-loop Inv-loop2 μ-loop2
+element-set-from-anomaly : tie.Need-element-set-from-anomaly Inv-loop μ-loop
 element-set-from-anomaly c = omega (arith, anomaly-fits (c .before))
 
-add-result-2 : tie.Need-add-result-2 Inv-loop μ-loop Inv-loop2 μ-loop2
+add-result-2 : tie.Need-add-result-2 Inv-loop μ-loop
 add-result-2 c = omega (arith, anomaly-fits (c .before))
 
-loop2-less-3 : tie.Need-loop2-less-3 Inv-loop μ-loop Inv-loop2 μ-loop2
-loop2-less-3 c = omega (arith, c .before .before .before .before .before .before .before .before .before .before .before .before .before .loop2-test .taken, c .before .before .before .before .before .before .before .before .before .before .before .before .before .before .loop2 .inv)
+loop-less-2 : tie.Need-loop-less-2 Inv-loop μ-loop
+loop-less-2 c = omega (arith, c .before .before .before .before .before .before .before .before .before .before .before .before .before .before .before .loop-test .taken, c .before .before .before .before .before .before .before .before .before .before .before .row-with2 .ensures)
 
-loop2-again-3 : tie.Need-loop2-again-3 Inv-loop μ-loop Inv-loop2 μ-loop2
-loop2-again-3 c =
+loop-again-2 : tie.Need-loop-again-2 Inv-loop μ-loop
+loop-again-2 c =
     let reported = c .before .before .before .before in
-    let turn = reported .before .before .before .before .before .before .before .before .before in
-    let clamped = turn .before .before .before .before .before .before .before .before in
-    moves-listed (visited clamped) (columns clamped) (turn .before .before .before .loop .m) (turn .before .loop2 .inv) (omega (arith, turn .loop2-test .taken)) (applied reported) (c .before .anomaly .given .0 .0) (ap raisedOf (sym (c .before .anomaly .given .1)) ∙ c .before .before .before .raised .ensures)
+    let start = began reported in
+    let turn = start .before in
+    let number = turn .before .multiplexor-number .result in
+    let next = c .before .before .before .before .before .before .before .before .before .before .before .row-with2 .ensures in
+    record {
+      here = next-here (visited (clamped turn)) (columns (clamped turn)) number (turn .loop .inv) (start .loop-test .taken) next;
+      engine = engine-moves (visited (clamped turn)) (columns (clamped turn)) number (turn .loop .inv) (start .loop-test .taken) next (applied reported);
+      result = result-listed (visited (clamped turn)) (columns (clamped turn)) number (turn .loop .inv) (start .loop-test .taken) next (applied reported) (c .before .anomaly .given .0 .0) (ap raisedOf (sym (c .before .anomaly .given .1)) ∙ c .before .before .before .raised .ensures);
+    }
 
-enum-told : tie.Need-enum-told Inv-loop μ-loop Inv-loop2 μ-loop2
+enum-told : tie.Need-enum-told Inv-loop μ-loop
 enum-told c = search needs
 
-loop2-less-4 : tie.Need-loop2-less-4 Inv-loop μ-loop Inv-loop2 μ-loop2
-loop2-less-4 c = omega (arith, c .before .before .before .before .before .before .before .before .before .before .before .before .loop2-test .taken, c .before .before .before .before .before .before .before .before .before .before .before .before .before .loop2 .inv)
+loop-less-3 : tie.Need-loop-less-3 Inv-loop μ-loop
+loop-less-3 c = omega (arith, c .before .before .before .before .before .before .before .before .before .before .before .before .before .before .loop-test .taken, c .before .before .before .before .before .before .before .before .before .before .row-with2 .ensures)
 
-loop2-again-4 : tie.Need-loop2-again-4 Inv-loop μ-loop Inv-loop2 μ-loop2
-loop2-again-4 c =
+loop-again-3 : tie.Need-loop-again-3 Inv-loop μ-loop
+loop-again-3 c =
     let reported = c .before .before .before in
-    let turn = reported .before .before .before .before .before .before .before .before .before in
-    let clamped = turn .before .before .before .before .before .before .before .before in
-    moves-quiet (visited clamped) (columns clamped) (turn .before .before .before .loop .m) (turn .before .loop2 .inv) (omega (arith, turn .loop2-test .taken)) (applied reported) (ap raisedOf (sym (c .enum-told .given .1)) ∙ c .before .before .raised .ensures)
+    let start = began reported in
+    let turn = start .before in
+    let number = turn .before .multiplexor-number .result in
+    let next = c .before .before .before .before .before .before .before .before .before .before .row-with2 .ensures in
+    record {
+      here = next-here (visited (clamped turn)) (columns (clamped turn)) number (turn .loop .inv) (start .loop-test .taken) next;
+      engine = engine-moves (visited (clamped turn)) (columns (clamped turn)) number (turn .loop .inv) (start .loop-test .taken) next (applied reported);
+      result = result-quiet (visited (clamped turn)) (columns (clamped turn)) number (turn .loop .inv) (start .loop-test .taken) next (applied reported) (ap raisedOf (sym (c .enum-told .given .1)) ∙ c .before .before .raised .ensures);
+    }
 
-returns : tie.Need-returns Inv-loop μ-loop Inv-loop2 μ-loop2
+returns : tie.Need-returns Inv-loop μ-loop
 returns c =
-    let clamped = c .before .before .before .before .before .before .before .before in
-    let number = search-ends (visited clamped) (columns clamped) (c .before .before .before .loop .inv) (omega (arith, c .before .before .loop-test .left)) (clamped .clamp .ensures) in
-    moving-ends (visited clamped) (columns clamped) (c .before .before .before .loop .m) (c .before .loop2 .inv) (omega (arith, c .loop2-test .left)) (clamped .clamp .ensures) number
+    let turn = c .before in
+    let number = turn .before .multiplexor-number in
+    moving-ends (visited (clamped turn)) (columns (clamped turn)) (number .result) (turn .loop .inv) (c .loop-test .left) (clamped turn .clamp .ensures) (number .ensures _ (columns (clamped turn) .detectors-64))
 
 pub process-spec : {M : Type 1} → statement M
 process-spec =
@@ -231,35 +196,18 @@ process-spec =
     (tie.spec
     Inv-loop
     μ-loop
-    Inv-loop2
-    μ-loop2
     no-reports-requires
     clamp-requires
-    count-equal-requires
+    row-with-requires
+    multiplexor-number-requires
     loop-holds
-    sub-j
-    mul-if1
-    element-copy-out-if1
-    sub-unseen
+    add-row-with
+    row-with-requires-2
     mul-signal
     element-copy-out-signal
-    selected-requires
+    is-typed-requires
     loop-less
     loop-again
-    loop-less-2
-    loop-again-2
-    loop2-holds
-    add-next
-    mul-if2
-    element-copy-out-if2
-    loop2-less
-    loop2-again
-    sub-left
-    mul-signal-2
-    element-copy-out-signal-2
-    is-typed-requires
-    loop2-less-2
-    loop2-again-2
     mul-detector
     element-copy-out-detector
     stepped-requires
@@ -274,9 +222,9 @@ process-spec =
     mul-anomaly
     element-set-from-anomaly
     add-result-2
-    loop2-less-3
-    loop2-again-3
+    loop-less-2
+    loop-again-2
     enum-told
-    loop2-less-4
-    loop2-again-4
+    loop-less-3
+    loop-again-3
     returns)

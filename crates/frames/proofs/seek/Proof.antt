@@ -1,0 +1,63 @@
+-- `frames::seek` meets its contract.
+-- Assumes nothing.
+use mathlib.Core.Path.{sym, ap, _∙_}
+use denote.Ref.{now}
+use borrow.Author.Tests.{not-true, not-false}
+use Rattle.bits.specs.Answers.{rawMeans}
+use Rattle.bits.specs.declared.Raw.{Raw}
+use Rattle.conversion.specs.Extract.{rawSignal}
+use Rattle.frames.specs.declared.Sought.the-variants.{Ends}
+use Rattle.frames.specs.Frames.{numbered}
+use Rattle.frames.proofs.Steps.{seek-other-type, seek-plain, seek-multiplexor}
+use borrow.Author.Needs.{needs}
+use Rattle.frames.proofs.seek.Statement.{statement}
+use Rattle.frames.proofs.seek.Tie as tie
+
+is-typed-requires : tie.Need-is-typed-requires
+is-typed-requires c κs = search needs
+
+returns : tie.Need-returns
+returns c =
+    let a = c .before .before .before .args in
+    seek-other-type (a .extended) (now (a .bytes)) (a .data-len) (a .signal .definition) (sym (c .before .is-typed .ensures) ∙ not-true _ (c .if1 .taken))
+
+returns-2 : tie.Need-returns-2
+returns-2 c =
+    let a = c .before .before .before .before .before .before .args in
+    seek-plain (a .extended) (now (a .bytes)) (a .data-len) (a .signal .definition) (sym (c .before .before .before .before .is-typed .ensures) ∙ not-false _ (c .before .before .before .if1 .left)) (not-true _ (c .if2 .taken))
+
+extract-raw-requires : tie.Need-extract-raw-requires
+extract-raw-requires c κs = search needs
+
+enum-known-v : tie.Need-enum-known-v
+enum-known-v c = search needs
+
+enum-told : tie.Need-enum-told
+enum-told c = search needs
+
+returns-3 : tie.Need-returns-3
+unfolding rawSignal
+returns-3 c =
+    let a = c .before .before .before .before .before .before .before .before .before .args in
+    ap (λ (q : Raw). Ends (numbered (rawMeans q))) (sym (c .enum-told .given .1))
+    ∙ seek-multiplexor (a .extended) (now (a .bytes)) (a .data-len) (a .signal .definition) (sym (c .before .before .before .before .before .before .before .is-typed .ensures) ∙ not-false _ (c .before .before .before .before .before .before .if1 .left)) (not-false _ (c .before .before .before .if2 .left)) (c .before .before .extract-raw .result) (c .before .before .extract-raw .ensures)
+
+returns-4 : tie.Need-returns-4
+unfolding rawSignal
+returns-4 c =
+    let a = c .before .before .before .before .before .before .before .before .before .before .args in
+    ap (λ (q : Raw). Ends (numbered (rawMeans q))) (sym (c .before .v .given .1))
+    ∙ seek-multiplexor (a .extended) (now (a .bytes)) (a .data-len) (a .signal .definition) (sym (c .before .before .before .before .before .before .before .before .is-typed .ensures) ∙ not-false _ (c .before .before .before .before .before .before .before .if1 .left)) (not-false _ (c .before .before .before .before .if2 .left)) (c .before .before .before .extract-raw .result) (c .before .before .before .extract-raw .ensures)
+
+pub seek-spec : {M : Type 1} → statement M
+seek-spec =
+    tie.close
+    (tie.spec
+    is-typed-requires
+    returns
+    returns-2
+    extract-raw-requires
+    enum-known-v
+    enum-told
+    returns-3
+    returns-4)

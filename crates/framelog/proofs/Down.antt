@@ -12,8 +12,7 @@ use Rattle.log.specs.declared.stream.Step.{Step}
 use Rattle.log.specs.Pieces.{Does, advanceOf}
 use Rattle.log.proofs.Texts.{one-more}
 use Rattle.log.proofs.Runs.{advance-fits}
-use Rattle.framelog.specs.declared.Got.{Got}
-use Rattle.framelog.specs.Program.{Within, remaining}
+use Rattle.framelog.specs.Program.{remaining}
 
 above : (vs l : List ℕ) (i k : ℕ) → i + length vs ≤ k → getD (sets l i vs) k 0 ≡ getD l k 0
 above [] l i k h = refl
@@ -28,9 +27,6 @@ down d e from j h q =
     ap (λ (x : List ℕ). getD x (from + j) 0) q ∙ above (take j (drop from d)) d 0 (from + j) (omega arith) ∙ sym (getD-drop from d j 0) in
     let z : 0 + j ≡ j = omega arith in
     rw v (subst (λ (k : ℕ). set e k (getD (drop from d) j 0) ≡ sets d 0 (take (j + 1) (drop from d))) z (one-more d e (drop from d) 0 j l q))
-
-pub bytes-in : (have n : ℕ) (r : Got) (l : List ℕ) → Within have r l → r ≡ Got.Bytes n → have + n ≤ length l
-bytes-in have n r l w q = subst (λ (x : Got). Within have x l) q w
 
 -- a call takes bytes that are at hand, and what it writes has room
 pub worked : {d out : List ℕ} {r : Step} (ended : Bool) (log : Log) (have : ℕ) (input : List ℕ) → have ≤ length input

@@ -3,8 +3,9 @@ ghost use mathlib.Core.Path.{_≡_};
 ghost use Prim.Native.Nat.{_-_, _≤_};
 ghost use lib.ListN.{length, take, drop};
 ghost use lib.Seq.{sets};
-ghost use Rattle.log.specs.Pieces.{Does, advanceOf};
-ghost use Rattle.framelog.specs.Program.{Within, remaining};
+ghost use Rattle.log.specs.Pieces.{Does, advanceOf, isEnded};
+ghost use Rattle.log.specs.Output.{statusMeans};
+ghost use Rattle.framelog.specs.Program.{gotOf, Read, isWaiting, remaining, failedOf, afterWrite, Prints, Turn, Ran};
 use libc::STDIN_FILENO;
 use libc::STDOUT_FILENO;
 use log::Log;
@@ -52,27 +53,32 @@ fn work(log: Log, have: usize, ended: bool, input: &mut [u8], out: &mut [u8]) ->
     r
 }
 
+// What the answer of a read says.
+fn got_of(answer: isize) -> Got
+    ensures { λ r. ⌜ r ≡ gotOf answer ⌝ }
+{
+    if answer < 0 {
+        return Got::Failed;
+    }
+    if answer == 0 {
+        return Got::End;
+    }
+    Got::Bytes(answer as usize)
+}
+
 // One read behind the bytes at hand. Where there is no room it makes no call.
 fn read_more(input: &mut [u8], have: usize) -> Got
     requires { ⌜ have ≤ length (now input) ⌝ }
-    ensures { λ r. ⌜ Within have r (now (input .exit)) ⌝ }
+    ensures { λ r. ⌜ Read have (now (input .entry)) r (now (input .exit)) ⌝ }
 {
     if have == input.len() {
         return Got::Bytes(0);
     }
-    let got = libc::read(STDIN_FILENO, &mut input[have..]);
-    if got < 0 {
-        return Got::Failed;
-    }
-    if got == 0 {
-        return Got::End;
-    }
-    let n = io::count(got, &input[have..]);
-    Got::Bytes(n)
+    got_of(libc::read(STDIN_FILENO, &mut input[have..]))
 }
 
 fn stopped(log: Log) -> State
-    ensures { λ r. ⌜ r .have ≡ 0 ⌝ }
+    ensures { λ r. ⌜ r ≡ failedOf log ⌝ }
 {
     State {
         log,
@@ -83,7 +89,9 @@ fn stopped(log: Log) -> State
     }
 }
 
-fn is_waiting(status: Status) -> bool {
+fn is_waiting(status: Status) -> bool
+    ensures { λ r. ⌜ r ≡ isWaiting (statusMeans status) ⌝ }
+{
     match status {
         Status::Waiting => true,
         Status::Going => false,
@@ -92,7 +100,9 @@ fn is_waiting(status: Status) -> bool {
     }
 }
 
-fn is_ended(status: Status) -> bool {
+fn is_ended(status: Status) -> bool
+    ensures { λ r. ⌜ r ≡ isEnded (statusMeans status) ⌝ }
+{
     match status {
         Status::Ended => true,
         Status::Going => false,
@@ -101,32 +111,40 @@ fn is_ended(status: Status) -> bool {
     }
 }
 
-// The lines of the records at hand go out.
-fn print(log: Log, have: usize, ended: bool, input: &mut [u8], out: &mut [u8]) -> State
-    requires { ⌜ have ≤ length (now input) ⌝ }
-    ensures { λ r. ⌜ r .have ≤ length (now (input .exit)) ⌝ }
+// What a step left, with `have` bytes at hand, once its lines were handed to a write, which took them or failed.
+fn after_write(took: bool, log: Log, have: usize, ended: bool, status: Status) -> State
+    ensures { λ r. ⌜ r ≡ afterWrite took log have ended (statusMeans status) ⌝ }
 {
-    let r = work(log, have, ended, input, out);
-    let end = r.end;
-    let used = r.used;
-    let next = r.log;
-    let status = r.status;
-    if !io::write_all(STDOUT_FILENO, &out[..end]) {
+    if !took {
         os::fail(b"framelog: standard output could not be written");
-        return stopped(next);
+        return stopped(log);
     }
     State {
-        log: next,
-        have: have - used,
+        log,
+        have,
         ended,
         waiting: is_waiting(status),
         going: !is_ended(status),
     }
 }
 
+// The lines of the records at hand go out.
+fn print(log: Log, have: usize, ended: bool, input: &mut [u8], out: &mut [u8]) -> State
+    requires { ⌜ have ≤ length (now input) ⌝ }
+    ensures { λ r. ⌜ Prints log have ended (now (input .entry)) (now (out .entry)) r (now (input .exit)) (now (out .exit)) ⌝ }
+{
+    let r = work(log, have, ended, input, out);
+    let end = r.end;
+    let left = have - r.used;
+    let next = r.log;
+    let status = r.status;
+    let took = io::write_all(STDOUT_FILENO, &out[..end]);
+    after_write(took, next, left, ended, status)
+}
+
 fn turn(st: State, input: &mut [u8], out: &mut [u8]) -> State
     requires { ⌜ st .have ≤ length (now input) ⌝ }
-    ensures { λ r. ⌜ r .have ≤ length (now (input .exit)) ⌝ }
+    ensures { λ r. ⌜ Turn st (now (input .entry)) (now (out .entry)) r (now (input .exit)) (now (out .exit)) ⌝ }
 {
     let log = st.log;
     let have = st.have;
@@ -145,7 +163,9 @@ fn turn(st: State, input: &mut [u8], out: &mut [u8]) -> State
 }
 
 // A proved loop has to end, and nothing says that the input does: the turns are counted down from a number that no run uses up.
-fn run(input: &mut [u8], out: &mut [u8]) {
+fn run(input: &mut [u8], out: &mut [u8])
+    ensures { λ _. ⌜ Ran (now (input .entry)) (now (out .entry)) (now (input .exit)) (now (out .exit)) ⌝ }
+{
     let mut st = State {
         log: log::start(),
         have: 0,

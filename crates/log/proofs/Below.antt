@@ -8,7 +8,7 @@ use Rattle.table.specs.declared.Defined.{Defined}
 use Rattle.table.specs.Table.{tableOf, created, defined, define′, remove′}
 use Rattle.frames.specs.declared.CanFrame.{CanFrame}
 use Rattle.frames.specs.declared.Processed.{Processed}
-use Rattle.frames.specs.Frames.{payloadOf, effectiveOf, processedFrame}
+use Rattle.frames.specs.Frames.{payloadOf, effectiveOf, processedMeans, processedFrame}
 use Rattle.frames.proofs.Theorems.{few-anomalies}
 use Rattle.log.specs.Output.{createdBy, definedBy, removedBy, processedBy}
 
@@ -24,9 +24,9 @@ pub by-remove : {r : Defined} (e : SignalIdsEngine) (k : ℕ) → r ≡ defined 
 unfolding removedBy
 by-remove e k p = p
 
-pub by-frame : {r : Processed} (e : SignalIdsEngine) (f : CanFrame) → r ≡ processedFrame e f → r ≡ processedBy e f
+pub by-frame : (r : Processed) (e : SignalIdsEngine) (f : CanFrame) → processedMeans r ≡ processedFrame e f → processedMeans r ≡ processedBy e f
 unfolding processedBy
-by-frame e f p = p
+by-frame r e f p = p
 
 -- at most eight anomalies are listed
 pub few : (e : SignalIdsEngine) (f : CanFrame) → processedBy e f .result .«anomaly_count» ≤ 8

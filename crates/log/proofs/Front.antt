@@ -5,10 +5,8 @@ use mathlib.Core.List.{List}
 use Prim.Native.Nat.{ℕ, _<_, _≤_}
 use lib.ListN.{length, getD, take}
 use borrow.Author.Tests.{ne-eqb, lt-ltb, le-ltb}
-use Rattle.log.specs.Records.{itemOf, marked, markOf, sizeOf, misplaced, recordOf, le16, badFlags, defineOf, definitionOf}
+use Rattle.log.specs.Records.{Front, itemOf, marked, markOf, sizeOf, misplaced, recordOf, le16, badFlags, defineOf, definitionOf}
 use Rattle.log.specs.declared.decode.Mark.{Mark}
-use Rattle.log.specs.declared.decode.Request.{Request}
-use Rattle.log.specs.declared.decode.Item.{Item}
 
 module _ (n : ℕ) (s : List ℕ) (h0 : length s ≡ 0 → ⊥) (hn : n ≡ 4294967295 → ⊥) (h1 : length s ≡ 1 → ⊥) where
   pub placed : itemOf n s ≡ marked n s (markOf (getD s 0 0) (getD s 1 0))
@@ -16,20 +14,20 @@ module _ (n : ℕ) (s : List ℕ) (h0 : length s ≡ 0 → ⊥) (hn : n ≡ 4294
   placed = simp (ne-eqb _ _ h0, ne-eqb _ _ hn, ne-eqb _ _ h1)
 
   module _ (k : Mark) (z : ℕ) (ek : k ≡ markOf (getD s 0 0) (getD s 1 0)) (ez : z ≡ sizeOf k) where
-    pub cut : length s < z → Item.Wait ≡ itemOf n s
+    pub cut : length s < z → Front.incomplete ≡ itemOf n s
     cut h = rw (placed, ← ek, ← ez, lt-ltb _ _ h) refl
 
-    pub misplaced-here : (b : Bool) → b ≡ misplaced n k → b ≡ true → z ≤ length s → Item.Stop 12 ≡ itemOf n s
+    pub misplaced-here : (b : Bool) → b ≡ misplaced n k → b ≡ true → z ≤ length s → Front.fault 12 ≡ itemOf n s
     misplaced-here b e t h = rw (placed, ← ek, ← ez, le-ltb _ _ h, ← e, t) refl
 
     pub whole : (b : Bool) → b ≡ misplaced n k → b ≡ false → z ≤ length s → recordOf (take z s) k ≡ itemOf n s
     whole b e t h = rw (placed, ← ek, ← ez, le-ltb _ _ h, ← e, t) refl
 
 -- a definition's flags are bad, or good: the number that was read is the condition's
-pub bad : (s : List ℕ) (m : ℕ) (b : Bool) → m ≡ le16 s 22 → b ≡ badFlags (getD s 6 0) m → b ≡ true → Item.Stop 13 ≡ defineOf s
+pub bad : (s : List ℕ) (m : ℕ) (b : Bool) → m ≡ le16 s 22 → b ≡ badFlags (getD s 6 0) m → b ≡ true → Front.fault 13 ≡ defineOf s
 unfolding defineOf
 bad s m b em eb t = rw (← em, ← eb, t) refl
 
-pub good : (s : List ℕ) (m : ℕ) (b : Bool) → m ≡ le16 s 22 → b ≡ badFlags (getD s 6 0) m → b ≡ false → Item.Call (Request.Define (definitionOf s (getD s 6 0))) ≡ defineOf s
+pub good : (s : List ℕ) (m : ℕ) (b : Bool) → m ≡ le16 s 22 → b ≡ badFlags (getD s 6 0) m → b ≡ false → Front.definition (definitionOf s (getD s 6 0)) ≡ defineOf s
 unfolding defineOf
 good s m b em eb t = rw (← em, ← eb, t) refl

@@ -4,4 +4,6 @@ pub mod Texts
 pub mod Steps
 pub mod Runs
 pub mod Seams
+pub mod Ends
 pub mod Example
+pub mod Determined

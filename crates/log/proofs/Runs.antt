@@ -10,19 +10,20 @@ use lib.Dec.{ltb}
 use borrow.Author.Tests.{le-ltb, lt-ltb, ltb-false}
 use Rattle.io.specs.Counts.{Counts}
 use Rattle.frames.specs.declared.Processed.{Processed}
+use Rattle.frames.specs.Frames.{Framed, processedMeans}
 use Rattle.frames.specs.declared.CanFrame.{CanFrame}
 use Rattle.log.specs.declared.decode.Request.{Request}
 use Rattle.log.specs.declared.decode.Item.{Item}
 use Rattle.log.specs.declared.stream.Log.{Log}
 use Rattle.log.specs.declared.stream.Status.{Status}
 use Rattle.log.specs.declared.stream.Step.{Step}
-use Rattle.log.specs.Records.{itemOf}
+use Rattle.log.specs.Records.{itemMeans, requestMeans, itemOf}
 use Rattle.log.specs.Lines.{Put, anomalyLines}
-use Rattle.log.specs.Output.{processedBy, frameAt, Move, stepOf, goesOn, run, outputFrom, stopStep, waitStep, requestStep, frameStep}
+use Rattle.log.specs.Output.{Standing, statusMeans, processedBy, frameAt, Move, stepOf, goesOn, run, outputFrom, stopStep, waitStep, requestStep, frameStep}
 use Rattle.log.specs.Pieces.{Does, runOn, advanceOf, fullMove, behind, after, soundOf}
 use Rattle.log.proofs.Below.{few}
 use Rattle.log.proofs.Texts.{then, named, nothing}
-use Rattle.log.proofs.Steps.{going, choose, does, at-item, has, counts-on, asks, step-count, step-length, step-used}
+use Rattle.log.proofs.Steps.{going, choose, does, at-item, at-request, has, counts-on, asks, step-count, step-length, step-used}
 
 -- a choice whose first side matters only where the test holds
 when {ℓ} : {A : Type ℓ} (b : Bool) (x y z : A) → (b ≡ true → x ≡ y) → cond b x z ≡ cond b y z
@@ -86,7 +87,7 @@ module _ (room : ℕ) (e : Bool) (log : Log) (s : List ℕ) where
 -- ---- the loop of `advance`: after some turns, t printed, the log at log, used bytes taken and end bytes written, the rest of the work is the run from there
 
 abbrev pub sofar : Log → ℕ → List ℕ → Move
-sofar log used t = record { log = log; used = used; text = t; status = Status.Going }
+sofar log used t = record { log = log; used = used; text = t; status = Standing.goes }
 
 pub nothing-yet : (m : Move) (log : Log) → m ≡ behind (sofar log 0 []) m
 nothing-yet m log = ap (λ (k : ℕ). record { log = m .log; used = k; text = m .text; status = m .status }) (omega arith)
@@ -118,11 +119,11 @@ turn-last a room end e log s used t h g q = q ∙ ap (behind (sofar log used t))
 -- no room for another
 pub turn-full : (a : Move) (room end : ℕ) (e : Bool) (log : Log) (s : List ℕ) (used : ℕ) (t : List ℕ) → room - end < 512
     → a ≡ behind (sofar log used t) (advanceOf (room - end) e log (drop used s))
-    → a ≡ record { log = log; used = used; text = t; status = Status.Full }
+    → a ≡ record { log = log; used = used; text = t; status = Standing.full }
 turn-full a room end e log s used t h q =
     q ∙ ap (behind (sofar log used t)) (on-full (room - end) e log (drop used s) h)
-    ∙ ap (λ (j : ℕ). record { log = log; used = j; text = t ++ []; status = Status.Full }) (omega arith)
-    ∙ ap (λ (l : List ℕ). record { log = log; used = used; text = l; status = Status.Full }) (append-nil t)
+    ∙ ap (λ (j : ℕ). record { log = log; used = j; text = t ++ []; status = Standing.full }) (omega arith)
+    ∙ ap (λ (l : List ℕ). record { log = log; used = used; text = l; status = Standing.full }) (append-nil t)
 
 -- what holds at the loop's head
 pub record Turned (s : List ℕ) (e : Bool) (d : List ℕ) (log₀ : Log) (out : List ℕ) (log : Log) (used end : ℕ) : Type 0 where
@@ -175,7 +176,7 @@ module _ {s : List ℕ} {e : Bool} {d : List ℕ} {log₀ : Log} {out : List ℕ
       kept : length out′ ≡ length out
       kept = ap length (p .put .done) ∙ length-sets out end (m .text)
 
-      more : goesOn (r .status) ≡ true → Turned s e d log₀ out′ (r .log) (used + r .used) (r .end)
+      more : goesOn (statusMeans (r .status)) ≡ true → Turned s e d log₀ out′ (r .log) (used + r .used) (r .end)
       more g =
           let p′ : Does out end (stepOf e log (drop used s)) r out′ = does here p in
           let g′ : goesOn (stepOf e log (drop used s) .status) ≡ true = sym (ap goesOn (p′ .status)) ∙ g in
@@ -189,7 +190,7 @@ module _ {s : List ℕ} {e : Bool} {d : List ℕ} {log₀ : Log} {out : List ℕ
             rest = rw (p′ .log, p′ .used, p′ .put .stop) (turn (advanceOf (length d) e log₀ s) (length d) end e log s used (w .text) roomy g′ (w .rest));
           }
 
-      less : goesOn (r .status) ≡ true → length s - (used + r .used) < length s - used
+      less : goesOn (statusMeans (r .status)) ≡ true → length s - (used + r .used) < length s - used
       less g =
           let p′ : Does out end (stepOf e log (drop used s)) r out′ = does here p in
           let l = going e log (drop used s) (sym (ap goesOn (p′ .status)) ∙ g) in
@@ -203,66 +204,66 @@ module _ {s : List ℕ} {e : Bool} {d : List ℕ} {log₀ : Log} {out : List ℕ
         rw (q, ← here) (record { log = p .log; used = p .used; put = then (w .put) (p .put); status = p .status })
 
     -- ---- by what stands at the front
-    module _ {i : Item} (found : i ≡ itemOf (log .count) (take (length s - used) (drop used s))) where
-      front : i ≡ itemOf (log .count) (drop used s)
+    module _ (i : Item) (found : itemMeans i ≡ itemOf (log .count) (take (length s - used) (drop used s))) where
+      front : itemMeans i ≡ itemOf (log .count) (drop used s)
       front = found ∙ ap (itemOf (log .count)) (part-all s used)
 
       pub waits : i ≡ Item.Wait → {r : Step} {out′ : List ℕ} → Does out end (after used (waitStep e log (length s - used))) r out′
           → Does d 0 (advanceOf (length d) e log₀ s) r out′
       waits q p =
           let l : length s - used ≡ length (drop used s) = sym (length-drop used s) in
-          last-turn (waitStep e log (length s - used)) (ap (waitStep e log) l ∙ at-item e log (drop used s) i Item.Wait front q) (wait-last e log (length s - used)) p
+          last-turn (waitStep e log (length s - used)) (ap (waitStep e log) l ∙ at-item e log (drop used s) (itemMeans i) (itemMeans Item.Wait) front (ap itemMeans q)) (wait-last e log (length s - used)) p
 
       pub stops : (k : ℕ) → i ≡ Item.Stop k → {r : Step} {out′ : List ℕ} → Does out end (after used (stopStep log k)) r out′
           → Does d 0 (advanceOf (length d) e log₀ s) r out′
-      stops k q p = last-turn (stopStep log k) (at-item e log (drop used s) i (Item.Stop k) front q) refl p
+      stops k q p = last-turn (stopStep log k) (at-item e log (drop used s) (itemMeans i) (itemMeans (Item.Stop k)) front (ap itemMeans q)) refl p
 
       -- ---- a table call
       module _ (c : Request) (q : i ≡ Item.Call c) where
         pub call-counts : log .count < 4294967295
-        call-counts = counts-on (log .count) (drop used s) i (Item.Call c) front q (w .few-enough) (asks c)
+        call-counts = counts-on (log .count) (drop used s) (itemMeans i) (requestMeans c) front (ap itemMeans q) (w .few-enough) (asks c)
 
-        module _ {r : Step} {out′ : List ℕ} (p : Does out end (requestStep log c) r out′) where
-          call-here : requestStep log c ≡ stepOf e log (drop used s)
-          call-here = at-item e log (drop used s) i (Item.Call c) front q
+        module _ {r : Step} {out′ : List ℕ} (p : Does out end (requestStep log (requestMeans c)) r out′) where
+          call-here : requestStep log (requestMeans c) ≡ stepOf e log (drop used s)
+          call-here = at-request e log (drop used s) c ∙ at-item e log (drop used s) (itemMeans i) (requestMeans c) front (ap itemMeans q)
 
           pub call-used : used + r .used ≤ length s
-          call-used = used-in (requestStep log c) call-here p
+          call-used = used-in (requestStep log (requestMeans c)) call-here p
 
-          pub call-more : goesOn (r .status) ≡ true → Turned s e d log₀ out′ (r .log) (used + r .used) (r .end)
-          call-more g = more (requestStep log c) call-here p g
+          pub call-more : goesOn (statusMeans (r .status)) ≡ true → Turned s e d log₀ out′ (r .log) (used + r .used) (r .end)
+          call-more g = more (requestStep log (requestMeans c)) call-here p g
 
-          pub call-less : goesOn (r .status) ≡ true → length s - (used + r .used) < length s - used
-          call-less g = less (requestStep log c) call-here p g
+          pub call-less : goesOn (statusMeans (r .status)) ≡ true → length s - (used + r .used) < length s - used
+          call-less g = less (requestStep log (requestMeans c)) call-here p g
 
-          pub call-last : goesOn (r .status) ≡ false
+          pub call-last : goesOn (statusMeans (r .status)) ≡ false
               → Does d 0 (advanceOf (length d) e log₀ s) (record { log = r .log; used = used + r .used; end = r .end; status = r .status }) out′
           call-last g =
-              last-turn (requestStep log c) call-here (sym (ap goesOn (p .status)) ∙ g)
+              last-turn (requestStep log (requestMeans c)) call-here (sym (ap goesOn (p .status)) ∙ g)
               (record { log = p .log; used = ap (λ (j : ℕ). used + j) (p .used); put = p .put; status = p .status })
 
       -- ---- a frame
       module _ (id : ℕ) (x : Bool) (n : ℕ) (q : i ≡ Item.Frame id x n) where
         pub frame-bytes : 16 ≤ length (take (length s - used) (drop used s))
-        frame-bytes = has (log .count) (take (length s - used) (drop used s)) i (Item.Frame id x n) found q
+        frame-bytes = has (log .count) (take (length s - used) (drop used s)) (itemMeans i) (itemMeans (Item.Frame id x n)) found (ap itemMeans q)
 
         pub frame-used : used + 16 ≤ length s
-        frame-used = omega (arith, has (log .count) (drop used s) i (Item.Frame id x n) front q, length-drop used s, w .got)
+        frame-used = omega (arith, has (log .count) (drop used s) (itemMeans i) (itemMeans (Item.Frame id x n)) front (ap itemMeans q), length-drop used s, w .got)
 
         pub frame-counts : log .count < 4294967295
-        frame-counts = counts-on (log .count) (drop used s) i (Item.Frame id x n) front q (w .few-enough) (omega arith)
+        frame-counts = counts-on (log .count) (drop used s) (itemMeans i) (itemMeans (Item.Frame id x n)) front (ap itemMeans q) (w .few-enough) (omega arith)
 
         pub frame-less : length s - (used + 16) < length s - used
         frame-less = omega (arith, frame-used)
 
-        module _ {f : CanFrame} (ef : f ≡ frameAt id x n (take (length s - used) (drop used s))) {y : Processed} (ey : y ≡ processedBy (log .engine) f) where
+        module _ {f : CanFrame} (ef : f ≡ frameAt id x n (take (length s - used) (drop used s))) (y : Processed) (ey : processedMeans y ≡ processedBy (log .engine) f) where
           frame-here : frameStep log f ≡ stepOf e log (drop used s)
-          frame-here = ap (frameStep log) (ef ∙ ap (frameAt id x n) (part-all s used)) ∙ at-item e log (drop used s) i (Item.Frame id x n) front q
+          frame-here = ap (frameStep log) (ef ∙ ap (frameAt id x n) (part-all s used)) ∙ at-item e log (drop used s) (itemMeans i) (itemMeans (Item.Frame id x n)) front (ap itemMeans q)
 
           -- its lines have room
           pub frame-room : (y .result .«anomaly_count» ≤ 8) × (end + 55 * y .result .«anomaly_count» ≤ length out)
           frame-room =
-              let h : y .result .«anomaly_count» ≤ 8 = rw ey (few (log .engine) f) in
+              let h : y .result .«anomaly_count» ≤ 8 = omega (arith, ap (λ (z : Framed). z .result .«anomaly_count») ey, few (log .engine) f) in
               (h, omega arith)
 
           pub frame-more : {end′ : ℕ} {out′ : List ℕ} → Put out end (anomalyLines (log .count + 1) (take (y .result .«anomaly_count») (y .result .anomalies))) end′ out′
@@ -270,15 +271,15 @@ module _ {s : List ℕ} {e : Bool} {d : List ℕ} {log₀ : Log} {out : List ℕ
           frame-more {end′} {out′} p =
               more (frameStep log f) frame-here {r = soundOf log (y .engine) 16 end′}
               (record {
-                log = ap (λ (z : Processed). record { count = log .count + 1; engine = z .engine }) ey;
+                log = ap (λ (z : Framed). record { count = log .count + 1; engine = z .engine }) ey;
                 used = refl;
-                put = named (ap (λ (z : Processed). anomalyLines (log .count + 1) (take (z .result .«anomaly_count») (z .result .anomalies))) ey) p;
+                put = named (ap (λ (z : Framed). anomalyLines (log .count + 1) (take (z .result .«anomaly_count») (z .result .anomalies))) ey) p;
                 status = refl;
               }) refl
 
 -- ---- what a call takes was there, and what it writes has room
 
-run-fits : (f room : ℕ) (e : Bool) (log : Log) (s : List ℕ) → (runOn f room e log s .used ≤ length s) × (length (runOn f room e log s .text) ≤ room)
+pub run-fits : (f room : ℕ) (e : Bool) (log : Log) (s : List ℕ) → (runOn f room e log s .used ≤ length s) × (length (runOn f room e log s .text) ≤ room)
 unfolding runOn
 run-fits zero room e log s = (omega arith, omega arith)
 run-fits (suc f) room e log s =

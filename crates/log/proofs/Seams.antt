@@ -1,6 +1,6 @@
 -- Where a read of the input ended never shows: `seam` for one call, `any-cutting` for any run of them. Assumes nothing.
 use mathlib.Core.Path.{_≡_, refl, sym, _∙_, ap}
-use mathlib.Core.Bool.{Bool, true, false, cond, true≢false}
+use mathlib.Core.Bool.{Bool, true, false, cond}
 use mathlib.Core.List.{List, [], _∷_, _++_, append-assoc, append-nil}
 use mathlib.Core.Logic.{_⊎_, inl, inr}
 use Prim.Native.Nat.{ℕ, zero, suc, _+_, _-_, _≤_}
@@ -10,22 +10,20 @@ use lib.Seq.{drop-drop, drop-append-le, take-append-le}
 use lib.Dec.{ltb, eqb}
 use borrow.Author.Tests.{le-ltb, ltb-false, ne-eqb, eqb-true, eqb-false}
 use Rattle.log.specs.declared.decode.Mark.{Mark}
-use Rattle.log.specs.declared.decode.Item.{Item}
 use Rattle.log.specs.declared.stream.Log.{Log}
-use Rattle.log.specs.declared.stream.Status.{Status}
-use Rattle.log.specs.Records.{itemOf, marked, markOf, sizeOf}
-use Rattle.log.specs.Output.{Move, stepOf, itemStep, frameStep, frameAt, dataOf, goesOn, outputFrom, output, startOf, waiting}
+use Rattle.log.specs.Records.{Front, itemOf, marked, markOf, sizeOf}
+use Rattle.log.specs.Output.{Standing, Move, stepOf, itemStep, frameStep, frameAt, dataOf, goesOn, outputFrom, output, startOf, waiting}
 use Rattle.log.specs.Pieces.{runOn, advanceOf, fullMove, behind, isEnded, left, concat, Calls, read, call, last}
 use Rattle.log.proofs.Front.{placed}
-use Rattle.log.proofs.Steps.{choose, going, step-kinds, Kinds, item-taken, taken}
-use Rattle.log.proofs.Runs.{output-step, on-last, on-more}
+use Rattle.log.proofs.Steps.{going, step-kinds, Kinds, item-taken, taken}
+use Rattle.log.proofs.Runs.{output-step}
 
--- ---- more bytes change no item but Wait
+-- ---- more bytes change nothing at the front but what is incomplete
 
-placed-stable : (n : ℕ) (s t : List ℕ) (k : Mark) → (marked n s k ≡ Item.Wait) ⊎ (marked n (s ++ t) k ≡ marked n s k)
+placed-stable : (n : ℕ) (s t : List ℕ) (k : Mark) → (marked n s k ≡ Front.incomplete) ⊎ (marked n (s ++ t) k ≡ marked n s k)
 placed-stable n s t k = go (ltb (length s) (sizeOf k)) refl
   where
-    go : (b : Bool) → ltb (length s) (sizeOf k) ≡ b → (marked n s k ≡ Item.Wait) ⊎ (marked n (s ++ t) k ≡ marked n s k)
+    go : (b : Bool) → ltb (length s) (sizeOf k) ≡ b → (marked n s k ≡ Front.incomplete) ⊎ (marked n (s ++ t) k ≡ marked n s k)
     go true q = inl (rw q refl)
     go false q =
         let h : sizeOf k ≤ length s = ltb-false (length s) (sizeOf k) q in
@@ -33,30 +31,30 @@ placed-stable n s t k = go (ltb (length s) (sizeOf k)) refl
         inr (rw (q, le-ltb (length (s ++ t)) (sizeOf k) h′, take-append-le (sizeOf k) s t h) refl)
 
 -- after 4,294,967,295 records more bytes give 15, whatever they are
-pub last-count : (n : ℕ) (s : List ℕ) → (length s ≡ 0 → ⊥) → n ≡ 4294967295 → itemOf n s ≡ Item.Stop 15
+pub last-count : (n : ℕ) (s : List ℕ) → (length s ≡ 0 → ⊥) → n ≡ 4294967295 → itemOf n s ≡ Front.fault 15
 unfolding itemOf
 last-count n s h q = rw (ne-eqb (length s) 0 h, q) refl
 
-one-byte : (n : ℕ) (a : ℕ) → (n ≡ 4294967295 → ⊥) → itemOf n (a ∷ []) ≡ Item.Wait
+one-byte : (n : ℕ) (a : ℕ) → (n ≡ 4294967295 → ⊥) → itemOf n (a ∷ []) ≡ Front.incomplete
 unfolding itemOf
 one-byte n a h = rw (ne-eqb n 4294967295 h) refl
 
-no-byte : (n : ℕ) → itemOf n [] ≡ Item.Wait
+no-byte : (n : ℕ) → itemOf n [] ≡ Front.incomplete
 unfolding itemOf
 no-byte n = refl
 
-pub stable : (n : ℕ) (s t : List ℕ) → (itemOf n s ≡ Item.Wait) ⊎ (itemOf n (s ++ t) ≡ itemOf n s)
+pub stable : (n : ℕ) (s t : List ℕ) → (itemOf n s ≡ Front.incomplete) ⊎ (itemOf n (s ++ t) ≡ itemOf n s)
 stable n [] t = inl (no-byte n)
 stable n (a ∷ []) t = go (eqb n 4294967295) refl
   where
-    go : (b : Bool) → eqb n 4294967295 ≡ b → (itemOf n (a ∷ []) ≡ Item.Wait) ⊎ (itemOf n (a ∷ t) ≡ itemOf n (a ∷ []))
+    go : (b : Bool) → eqb n 4294967295 ≡ b → (itemOf n (a ∷ []) ≡ Front.incomplete) ⊎ (itemOf n (a ∷ t) ≡ itemOf n (a ∷ []))
     go true q =
         let e = eqb-true n 4294967295 q in
         inr (last-count n (a ∷ t) (λ z. omega arith) e ∙ sym (last-count n (a ∷ []) (λ z. omega arith) e))
     go false q = inl (one-byte n a (eqb-false n 4294967295 q))
 stable n (a ∷ b ∷ s) t = go (eqb n 4294967295) refl
   where
-    go : (c : Bool) → eqb n 4294967295 ≡ c → (itemOf n (a ∷ b ∷ s) ≡ Item.Wait) ⊎ (itemOf n (a ∷ b ∷ (s ++ t)) ≡ itemOf n (a ∷ b ∷ s))
+    go : (c : Bool) → eqb n 4294967295 ≡ c → (itemOf n (a ∷ b ∷ s) ≡ Front.incomplete) ⊎ (itemOf n (a ∷ b ∷ (s ++ t)) ≡ itemOf n (a ∷ b ∷ s))
     go true q =
         let e = eqb-true n 4294967295 q in
         inr (last-count n (a ∷ b ∷ (s ++ t)) (λ z. omega arith) e ∙ sym (last-count n (a ∷ b ∷ s) (λ z. omega arith) e))
@@ -67,8 +65,8 @@ stable n (a ∷ b ∷ s) t = go (eqb n 4294967295) refl
         cond p p′ (placed-stable n (a ∷ b ∷ s) t (markOf a b))
       where
         cond : itemOf n (a ∷ b ∷ s) ≡ marked n (a ∷ b ∷ s) (markOf a b) → itemOf n (a ∷ b ∷ (s ++ t)) ≡ marked n (a ∷ b ∷ (s ++ t)) (markOf a b)
-            → (marked n (a ∷ b ∷ s) (markOf a b) ≡ Item.Wait) ⊎ (marked n (a ∷ b ∷ (s ++ t)) (markOf a b) ≡ marked n (a ∷ b ∷ s) (markOf a b))
-            → (itemOf n (a ∷ b ∷ s) ≡ Item.Wait) ⊎ (itemOf n (a ∷ b ∷ (s ++ t)) ≡ itemOf n (a ∷ b ∷ s))
+            → (marked n (a ∷ b ∷ s) (markOf a b) ≡ Front.incomplete) ⊎ (marked n (a ∷ b ∷ (s ++ t)) (markOf a b) ≡ marked n (a ∷ b ∷ s) (markOf a b))
+            → (itemOf n (a ∷ b ∷ s) ≡ Front.incomplete) ⊎ (itemOf n (a ∷ b ∷ (s ++ t)) ≡ itemOf n (a ∷ b ∷ s))
         cond p p′ (inl w) = inl (p ∙ w)
         cond p p′ (inr w) = inr (p′ ∙ w ∙ sym p)
 
@@ -77,21 +75,23 @@ stable n (a ∷ b ∷ s) t = go (eqb n 4294967295) refl
 frame-same : (log : Log) (i : ℕ) (x : Bool) (n : ℕ) (s t : List ℕ) → dataOf s ≡ dataOf t → frameStep log (frameAt i x n s) ≡ frameStep log (frameAt i x n t)
 frame-same log i x n s t e = ap (λ (l : List ℕ). frameStep log (record { id = i; «is_extended» = x; length = n; «data» = l })) e
 
-item-same : (log : Log) (s t : List ℕ) (i : Item) → taken i ≤ length s → (itemStep false log s i ≡ waiting log) ⊎ (itemStep true log (s ++ t) i ≡ itemStep false log s i)
-item-same log s t Item.Wait h = inl refl
-item-same log s t (Item.Call q) h = inr refl
-item-same log s t (Item.Frame i x n) h =
+item-same : (log : Log) (s t : List ℕ) (i : Front) → taken i ≤ length s → (itemStep false log s i ≡ waiting log) ⊎ (itemStep true log (s ++ t) i ≡ itemStep false log s i)
+item-same log s t Front.incomplete h = inl refl
+item-same log s t (Front.fault k) h = inr refl
+item-same log s t (Front.settings a u) h = inr refl
+item-same log s t (Front.definition d) h = inr refl
+item-same log s t (Front.removal k) h = inr refl
+item-same log s t (Front.frame i x n) h =
     let l : 8 ≤ length s = omega arith in
     let l′ : 8 ≤ length (drop 8 s) = omega (arith, length-drop 8 s) in
     inr (frame-same log i x n (s ++ t) s (ap (take 8) (drop-append-le 8 s t l) ∙ take-append-le 8 (drop 8 s) t l′))
-item-same log s t (Item.Stop k) h = inr refl
 
 pub step-stable : (e : Bool) (log : Log) (s t : List ℕ) → (e ≡ true → t ≡ []) → (stepOf e log s ≡ waiting log) ⊎ (stepOf true log (s ++ t) ≡ stepOf e log s)
 unfolding stepOf
 step-stable true log s t h = inr (ap (stepOf true log) (ap (λ (u : List ℕ). s ++ u) (h refl) ∙ append-nil s))
 step-stable false log s t h = go (stable (log .count) s t)
   where
-    go : (itemOf (log .count) s ≡ Item.Wait) ⊎ (itemOf (log .count) (s ++ t) ≡ itemOf (log .count) s) → (stepOf false log s ≡ waiting log) ⊎ (stepOf true log (s ++ t) ≡ stepOf false log s)
+    go : (itemOf (log .count) s ≡ Front.incomplete) ⊎ (itemOf (log .count) (s ++ t) ≡ itemOf (log .count) s) → (stepOf false log s ≡ waiting log) ⊎ (stepOf true log (s ++ t) ≡ stepOf false log s)
     go (inl q) = inl (ap (itemStep false log s) q)
     go (inr q) = cond (item-same log s t (itemOf (log .count) s) (item-taken (log .count) s))
       where
@@ -123,7 +123,7 @@ more e log s t n q g ih =
     ∙ sym (output-step log (s ++ t) ∙ rw (q, g) refl)
 
 -- a last step
-final : (e : Bool) (log : Log) (s t : List ℕ) → stepOf true log (s ++ t) ≡ stepOf e log s → stepOf e log s .status ≡ Status.Ended
+final : (e : Bool) (log : Log) (s t : List ℕ) → stepOf true log (s ++ t) ≡ stepOf e log s → stepOf e log s .status ≡ Standing.stopped
     → whole (stepOf e log s) s t ≡ outputFrom log (s ++ t)
 final e log s t q d = rw d (sym (output-step log (s ++ t) ∙ rw (q, d) refl))
 
@@ -183,29 +183,3 @@ calls {log} {p} {xs} (last room e h m q d) = seam-last room e log p (concat xs) 
 -- THE THEOREM: for any cutting of the input into pieces, and any rooms, what the calls print joined is the output of the whole
 pub any-cutting : (xs : List (List ℕ)) (u : List ℕ) → Calls startOf [] xs u → u ≡ output (concat xs)
 any-cutting xs u c = calls c
-
--- ---- such runs come to their end: no call leaves the log between two records that it could take, and with the room that
--- one record needs a call that is told of the end of the input ends the log or takes a byte at least
-
-pub never-going : (room : ℕ) (e : Bool) (log : Log) (s : List ℕ) → goesOn (advanceOf room e log s .status) ≡ false
-unfolding runOn
-never-going room e log s = go (suc (length s)) room log s
-  where
-    go : (f room : ℕ) (log : Log) (s : List ℕ) → goesOn (runOn f room e log s .status) ≡ false
-    go zero room log s = refl
-    go (suc f) room log s =
-        let m = stepOf e log s in
-        choose (λ (n : Move). goesOn (n .status) ≡ false) (ltb room 512) (fullMove log) _ (λ _. refl)
-        (λ _. choose (λ (n : Move). goesOn (n .status) ≡ false) (goesOn (m .status)) (behind m (runOn f (room - length (m .text)) e (m .log) (drop (m .used) s))) m
-        (λ _. go f (room - length (m .text)) (m .log) (drop (m .used) s)) (λ q. q))
-
-pub moves-on : (room : ℕ) (log : Log) (s : List ℕ) → 512 ≤ room → (advanceOf room true log s .status ≡ Status.Ended) ⊎ (1 ≤ advanceOf room true log s .used)
-moves-on room log s h = go (step-kinds true log s)
-  where
-    go : Kinds true log (stepOf true log s) → (advanceOf room true log s .status ≡ Status.Ended) ⊎ (1 ≤ advanceOf room true log s .used)
-    go (inl w) = absurd (true≢false (w .1))
-    go (inr (inl d)) = inl (ap (λ (n : Move). n .status) (on-last room true log s h (ap goesOn d)) ∙ d)
-    go (inr (inr g)) =
-        let n = advanceOf (room - length (stepOf true log s .text)) true (stepOf true log s .log) (drop (stepOf true log s .used) s) in
-        let u : advanceOf room true log s .used ≡ stepOf true log s .used + n .used = ap (λ (x : Move). x .used) (on-more room true log s h (ap goesOn (g .0))) in
-        inr (omega (arith, u, g .1))

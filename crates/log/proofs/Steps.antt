@@ -1,4 +1,4 @@
--- One record: how many bytes it takes, and how much it prints. What `advance` promises leaves one answer. Assumes nothing.
+-- One record: how many bytes it takes, and how much it prints. Assumes nothing.
 use mathlib.Core.Path.{_≡_, refl, sym, _∙_, ap, subst}
 use mathlib.Core.Bool.{Bool, true, false, cond, true≢false}
 use mathlib.Core.List.{List, [], _∷_}
@@ -15,15 +15,11 @@ use Rattle.table.specs.declared.Answer.{Answer}
 use Rattle.frames.specs.declared.CanFrame.{CanFrame}
 use Rattle.log.specs.declared.decode.Mark.{Mark}
 use Rattle.log.specs.declared.decode.Request.{Request}
-use Rattle.log.specs.declared.decode.Item.{Item}
 use Rattle.log.specs.declared.stream.Log.{Log}
 use Rattle.log.specs.declared.stream.Step.{Step}
-use Rattle.log.specs.declared.stream.Status.{Status}
-use Rattle.log.specs.Records.{itemOf, marked, markOf, sizeOf, misplaced, recordOf, settingsOf, defineOf, removeOf, frameOf, badFlags, definitionOf, le16, le32}
-use Rattle.log.specs.declared.lines.LogLine.{LogLine}
-use Rattle.log.specs.declared.lines.Rendered.{Rendered}
-use Rattle.log.specs.Lines.{renderedOf, bufferOf, Put, ascii}
-use Rattle.log.specs.Output.{createdBy, definedBy, removedBy, processedBy, startOf, dataOf, frameAt, Move, itemStep, stepOf, settledStep, requestStep, frameStep, goStep, stopStep, waitStep, lastNumber, goesOn, waiting}
+use Rattle.log.specs.Records.{Front, requestMeans, itemOf, marked, markOf, sizeOf, misplaced, recordOf, settingsOf, defineOf, removeOf, frameOf, badFlags, definitionOf, le16, le32}
+use Rattle.log.specs.Lines.{Put, ascii}
+use Rattle.log.specs.Output.{Standing, statusMeans, createdBy, definedBy, removedBy, processedBy, dataOf, frameAt, Move, itemStep, stepOf, settledStep, requestStep, frameStep, goStep, stopStep, waitStep, lastNumber, goesOn, waiting}
 use Rattle.log.specs.Pieces.{Does, after, soundOf}
 use Rattle.log.proofs.Texts.{line-length, answer-length, lines-length}
 use Rattle.log.proofs.Below.{few}
@@ -58,64 +54,61 @@ framed id x n s h = ap (λ (l : List ℕ). frameOf′ id x n l) (eight s h)
 
 -- ---- how many bytes an item takes: 0 if the log does not go on
 
-abbrev pub asked : Request → ℕ
-asked (Request.Settings a t) = 10
-asked (Request.Define d) = 24
-asked (Request.Remove k) = 4
+abbrev pub taken : Front → ℕ
+taken Front.incomplete = 0
+taken (Front.fault k) = 0
+taken (Front.settings a t) = 10
+taken (Front.definition d) = 24
+taken (Front.removal k) = 4
+taken (Front.frame i x n) = 16
 
-abbrev pub taken : Item → ℕ
-taken Item.Wait = 0
-taken (Item.Call q) = asked q
-taken (Item.Frame i x n) = 16
-taken (Item.Stop k) = 0
-
-stop-or : (k m : ℕ) (b : Bool) (i : Item) → taken i ≤ m → taken (cond b (Item.Stop k) i) ≤ m
+stop-or : (k m : ℕ) (b : Bool) (i : Front) → taken i ≤ m → taken (cond b (Front.fault k) i) ≤ m
 stop-or k m true i h = omega arith
 stop-or k m false i h = h
 
 record-taken : (s : List ℕ) (k : Mark) → taken (recordOf s k) ≤ sizeOf k
 unfolding settingsOf defineOf removeOf frameOf
 record-taken s Mark.Settings = omega arith
-record-taken s Mark.Definition = stop-or 13 24 (badFlags (getD s 6 0) (le16 s 22)) (Item.Call (Request.Define (definitionOf s (getD s 6 0)))) (omega arith)
+record-taken s Mark.Definition = stop-or 13 24 (badFlags (getD s 6 0) (le16 s 22)) (Front.definition (definitionOf s (getD s 6 0))) (omega arith)
 record-taken s Mark.Removal = omega arith
 record-taken s Mark.Frame =
-    let i = Item.Frame (le32 s 4) (eqb (getD s 2 0) 1) (getD s 3 0) in
-    stop-or 13 16 (leb 2 (getD s 2 0)) (cond (ltb 15 (getD s 3 0)) (Item.Stop 14) i) (stop-or 14 16 (ltb 15 (getD s 3 0)) i (omega arith))
+    let i = Front.frame (le32 s 4) (eqb (getD s 2 0) 1) (getD s 3 0) in
+    stop-or 13 16 (leb 2 (getD s 2 0)) (cond (ltb 15 (getD s 3 0)) (Front.fault 14) i) (stop-or 14 16 (ltb 15 (getD s 3 0)) i (omega arith))
 record-taken s Mark.Unknown = omega arith
 
 marked-taken : (n : ℕ) (s : List ℕ) (k : Mark) → taken (marked n s k) ≤ length s
 marked-taken n s k =
-    choose (λ (i : Item). taken i ≤ length s) (ltb (length s) (sizeOf k)) _ _ (λ _. omega arith)
-    (λ e. choose (λ (i : Item). taken i ≤ length s) (misplaced n k) _ _ (λ _. omega arith)
+    choose (λ (i : Front). taken i ≤ length s) (ltb (length s) (sizeOf k)) _ _ (λ _. omega arith)
+    (λ e. choose (λ (i : Front). taken i ≤ length s) (misplaced n k) _ _ (λ _. omega arith)
     (λ _. omega (arith, ltb-false (length s) (sizeOf k) e, record-taken (take (sizeOf k) s) k)))
 
 -- it takes them from the bytes at hand
 pub item-taken : (n : ℕ) (s : List ℕ) → taken (itemOf n s) ≤ length s
 unfolding itemOf
 item-taken n s =
-    choose (λ (i : Item). taken i ≤ length s) (eqb (length s) 0) _ _ (λ _. omega arith)
-    (λ _. choose (λ (i : Item). taken i ≤ length s) (eqb n 4294967295) _ _ (λ _. omega arith)
-    (λ _. choose (λ (i : Item). taken i ≤ length s) (eqb (length s) 1) _ _ (λ _. omega arith) (λ _. marked-taken n s (markOf (getD s 0 0) (getD s 1 0)))))
+    choose (λ (i : Front). taken i ≤ length s) (eqb (length s) 0) _ _ (λ _. omega arith)
+    (λ _. choose (λ (i : Front). taken i ≤ length s) (eqb n 4294967295) _ _ (λ _. omega arith)
+    (λ _. choose (λ (i : Front). taken i ≤ length s) (eqb (length s) 1) _ _ (λ _. omega arith) (λ _. marked-taken n s (markOf (getD s 0 0) (getD s 1 0)))))
 
 -- a record is taken only below the last count
 below : (n : ℕ) (s : List ℕ) → 1 ≤ taken (itemOf n s) → n ≡ 4294967295 → ⊥
 unfolding itemOf
 below n s =
-    choose (λ (i : Item). 1 ≤ taken i → n ≡ 4294967295 → ⊥) (eqb (length s) 0) _ _ (λ _ h _. omega arith)
-    (λ _. choose (λ (i : Item). 1 ≤ taken i → n ≡ 4294967295 → ⊥) (eqb n 4294967295) _ _ (λ _ h _. omega arith)
+    choose (λ (i : Front). 1 ≤ taken i → n ≡ 4294967295 → ⊥) (eqb (length s) 0) _ _ (λ _ h _. omega arith)
+    (λ _. choose (λ (i : Front). 1 ≤ taken i → n ≡ 4294967295 → ⊥) (eqb n 4294967295) _ _ (λ _ h _. omega arith)
     (λ e _ h. eqb-false n 4294967295 e h))
 
-module _ (n : ℕ) (s : List ℕ) (i j : Item) (p : i ≡ itemOf n s) (q : i ≡ j) where
+module _ (n : ℕ) (s : List ℕ) (i j : Front) (p : i ≡ itemOf n s) (q : i ≡ j) where
   -- an item that takes bytes: they are there, and the count is below its last
   pub has : taken j ≤ length s
-  has = subst (λ (x : Item). taken x ≤ length s) (sym p ∙ q) (item-taken n s)
+  has = subst (λ (x : Front). taken x ≤ length s) (sym p ∙ q) (item-taken n s)
 
   pub counts-on : n < 2 ^ 32 → 1 ≤ taken j → n < 4294967295
   counts-on f h =
-      let k : n ≡ 4294967295 → ⊥ = below n s (subst (λ (x : Item). 1 ≤ taken x) (sym q ∙ p) h) in
+      let k : n ≡ 4294967295 → ⊥ = below n s (subst (λ (x : Front). 1 ≤ taken x) (sym q ∙ p) h) in
       omega arith
 
-pub asks : (q : Request) → 1 ≤ asked q
+pub asks : (q : Request) → 1 ≤ taken (requestMeans q)
 asks (Request.Settings a t) = omega arith
 asks (Request.Define d) = omega arith
 asks (Request.Remove k) = omega arith
@@ -130,9 +123,15 @@ does {d} {e} {at} {m} {n} {r} q p = subst (λ (x : Move). Does d at x r e) q p
 pub told : {d e : List ℕ} {at : ℕ} {m : Move} {r q : Step} → r ≡ q → Does d at m q e → Does d at m r e
 told {d} {e} {at} {m} {r} {q} w p = subst (λ (x : Step). Does d at m x e) (sym w) p
 
-pub at-item : (ended : Bool) (log : Log) (s : List ℕ) (i j : Item) → i ≡ itemOf (log .count) s → i ≡ j → itemStep ended log s j ≡ stepOf ended log s
+pub at-item : (ended : Bool) (log : Log) (s : List ℕ) (i j : Front) → i ≡ itemOf (log .count) s → i ≡ j → itemStep ended log s j ≡ stepOf ended log s
 unfolding stepOf
 at-item ended log s i j p q = ap (itemStep ended log s) (sym q ∙ p)
+
+-- a record for the table does the same before any bytes
+pub at-request : (ended : Bool) (log : Log) (s : List ℕ) (q : Request) → requestStep log (requestMeans q) ≡ itemStep ended log s (requestMeans q)
+at-request ended log s (Request.Settings a t) = refl
+at-request ended log s (Request.Define d) = refl
+at-request ended log s (Request.Remove k) = refl
 
 -- a sound record: its answer, and its text in the buffer
 pub sounds : {d e : List ℕ} {at n end : ℕ} (log : Log) {text : List ℕ} {g : SignalIdsEngine} {r : Step} → r ≡ soundOf log g n end → Put d at text end e
@@ -142,7 +141,7 @@ sounds {d} {e} {at} {n} {end} log {text} {g} {r} q p =
       log = ap (λ (x : Step). x .log) q;
       used = ap (λ (x : Step). x .used) q;
       put = subst (λ (k : ℕ). Put d at text k e) (sym (ap (λ (x : Step). x .end) q)) p;
-      status = ap (λ (x : Step). x .status) q;
+      status = ap (λ (x : Step). statusMeans (x .status)) q;
     }
 
 pub at-end : (used : ℕ) (log : Log) (ended : Bool) (left k : ℕ) → ended ≡ true → k ≡ lastNumber left → after used (stopStep log k) ≡ after used (waitStep ended log left)
@@ -150,7 +149,7 @@ at-end used log ended left k p q = rw (p, q) refl
 
 -- ---- what a step may be: it waits, which it does only before the input's end, or it is the last, or it takes bytes
 abbrev pub Kinds : Bool → Log → Move → Type 0
-Kinds ended log m = ((m ≡ waiting log) × (ended ≡ false)) ⊎ ((m .status ≡ Status.Ended) ⊎ ((m .status ≡ Status.Going) × (1 ≤ m .used)))
+Kinds ended log m = ((m ≡ waiting log) × (ended ≡ false)) ⊎ ((m .status ≡ Standing.stopped) ⊎ ((m .status ≡ Standing.goes) × (1 ≤ m .used)))
 
 -- and what it takes, prints and counts, of an item of n bytes
 record Bounds (ended : Bool) (log : Log) (n : ℕ) (m : Move) : Type 0 where
@@ -171,23 +170,22 @@ module _ (ended : Bool) (log : Log) where
   settled-bounds e (Answer.Slot k) = sound-bounds 10 [] e (omega arith) (omega arith)
   settled-bounds e (Answer.Refused k) = stop-bounds 10 k
 
-  request-bounds : (q : Request) → Bounds ended log (asked q) (requestStep log q)
-  request-bounds (Request.Settings a t) = settled-bounds (createdBy a t .engine) (createdBy a t .answer)
-  request-bounds (Request.Define d) = sound-bounds 24 _ _ (omega arith) (omega (arith, answer-length (ascii "D ") (log .count + 1) (definedBy (log .engine) d .answer)))
-  request-bounds (Request.Remove k) = sound-bounds 4 _ _ (omega arith) (omega (arith, answer-length (ascii "R ") (log .count + 1) (removedBy (log .engine) k .answer)))
-
   frame-bounds : (f : CanFrame) → Bounds ended log 16 (frameStep log f)
   frame-bounds f =
       let r = processedBy (log .engine) f in
       let n = r .result .«anomaly_count» in
       sound-bounds 16 _ _ (omega arith) (omega (arith, lines-length (log .count + 1) (take n (r .result .anomalies)), length-take n (r .result .anomalies), few (log .engine) f))
 
-item-bounds : (ended : Bool) (log : Log) (s : List ℕ) (i : Item) → Bounds ended log (taken i) (itemStep ended log s i)
-item-bounds true log s Item.Wait = stop-bounds true log 0 (lastNumber (length s))
-item-bounds false log s Item.Wait = record { kind = inl (refl, refl); takes = omega arith; prints = omega arith; counts = omega arith }
-item-bounds ended log s (Item.Call q) = request-bounds ended log q
-item-bounds ended log s (Item.Frame i x n) = frame-bounds ended log (frameAt i x n s)
-item-bounds ended log s (Item.Stop k) = stop-bounds ended log 0 k
+item-bounds : (ended : Bool) (log : Log) (s : List ℕ) (i : Front) → Bounds ended log (taken i) (itemStep ended log s i)
+item-bounds true log s Front.incomplete = stop-bounds true log 0 (lastNumber (length s))
+item-bounds false log s Front.incomplete = record { kind = inl (refl, refl); takes = omega arith; prints = omega arith; counts = omega arith }
+item-bounds ended log s (Front.fault k) = stop-bounds ended log 0 k
+item-bounds ended log s (Front.settings a t) = settled-bounds ended log (createdBy a t .engine) (createdBy a t .answer)
+item-bounds ended log s (Front.definition d) =
+    sound-bounds ended log 24 _ _ (omega arith) (omega (arith, answer-length (ascii "D ") (log .count + 1) (definedBy (log .engine) d .answer)))
+item-bounds ended log s (Front.removal k) =
+    sound-bounds ended log 4 _ _ (omega arith) (omega (arith, answer-length (ascii "R ") (log .count + 1) (removedBy (log .engine) k .answer)))
+item-bounds ended log s (Front.frame i x n) = frame-bounds ended log (frameAt i x n s)
 
 step-bounds : (ended : Bool) (log : Log) (s : List ℕ) → Bounds ended log (taken (itemOf (log .count) s)) (stepOf ended log s)
 unfolding stepOf
@@ -220,26 +218,3 @@ step-count ended log s h = go (decLe 1 (taken (itemOf (log .count) s)))
     go : Dec (1 ≤ taken (itemOf (log .count) s)) → stepOf ended log s .log .count < 2 ^ 32
     go (yes k) = omega (arith, step-bounds ended log s .counts, counts-on (log .count) s (itemOf (log .count) s) (itemOf (log .count) s) refl refl h k)
     go (no k) = omega (arith, step-bounds ended log s .counts, k)
-
--- ---- each promise leaves one answer, and `advance`'s one buffer
-
-pub one-start : (r q : Log) → r ≡ startOf → q ≡ startOf → r ≡ q
-one-start r q p w = p ∙ sym w
-
-pub one-line : (d : List ℕ) (l : LogLine) (r q : Rendered) (e f : List ℕ) → (r ≡ renderedOf (length d) l) × (e ≡ bufferOf d l)
-    → (q ≡ renderedOf (length d) l) × (f ≡ bufferOf d l) → (r ≡ q) × (e ≡ f)
-one-line d l r q e f p w = (p .0 ∙ sym (w .0), p .1 ∙ sym (w .1))
-
-pub one-item : (n : ℕ) (s : List ℕ) (r q : Item) → r ≡ itemOf n s → q ≡ itemOf n s → r ≡ q
-one-item n s r q p w = p ∙ sym w
-
-alike : (r q : Step) → r .log ≡ q .log → r .used ≡ q .used → r .end ≡ q .end → r .status ≡ q .status → r ≡ q
-alike r q a b d e =
-    ap (λ (x : Log). record { log = x; used = r .used; end = r .end; status = r .status }) a
-    ∙ ap (λ (x : ℕ). record { log = q .log; used = x; end = r .end; status = r .status }) b
-    ∙ ap (λ (x : ℕ). record { log = q .log; used = q .used; end = x; status = r .status }) d
-    ∙ ap (λ (x : Status). record { log = q .log; used = q .used; end = q .end; status = x }) e
-
-pub one-answer : (d e f : List ℕ) (at : ℕ) (m : Move) (r q : Step) → Does d at m r e → Does d at m q f → (r ≡ q) × (e ≡ f)
-one-answer d e f at m r q p w =
-    (alike r q (p .log ∙ sym (w .log)) (p .used ∙ sym (w .used)) (p .put .stop ∙ sym (w .put .stop)) (p .status ∙ sym (w .status)), p .put .done ∙ sym (w .put .done))

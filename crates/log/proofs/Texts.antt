@@ -13,8 +13,7 @@ use lib.Dec.{ltb}
 use borrow.Author.Tests.{lt-ltb, le-ltb}
 use Rattle.io.specs.Digits.{digits, Fewest}
 use Rattle.log.specs.declared.lines.LogLine.{LogLine}
-use Rattle.log.specs.declared.lines.Rendered.{Rendered}
-use Rattle.log.specs.Lines.{textOf, renderedOf, bufferOf, Put, ascii, dec, decimal, numbers, line, field, answerLine, anomalyLine, anomalyLines, hex8}
+use Rattle.log.specs.Lines.{Written, textOf, renderedOf, bufferOf, Put, ascii, dec, decimal, numbers, line, field, answerLine, anomalyLine, anomalyLines, hex8}
 use lib.Ieee.{Float}
 use Rattle.table.specs.declared.Answer.{Answer}
 use Rattle.frames.specs.declared.SignalAnomaly.{SignalAnomaly}
@@ -131,14 +130,14 @@ next-line n l z j h = rw (add-one, take-suc l j z h) (sym (lines-snoc n (take j 
 
 -- ---- `render`
 
-pub no-room : (room : ℕ) (l : LogLine) → room < 55 → Rendered.NoRoom ≡ renderedOf room l
+pub no-room : (room : ℕ) (l : LogLine) → room < 55 → Written.noRoom ≡ renderedOf room l
 no-room room l h = rw (lt-ltb room 55 h) refl
 
 pub kept-whole : (d : List ℕ) (l : LogLine) → length d < 55 → d ≡ bufferOf d l
 kept-whole d l h = rw (lt-ltb (length d) 55 h) refl
 
 module _ (d e : List ℕ) (l : LogLine) (r : ℕ) (h : 55 ≤ length d) (p : Put d 0 (textOf l) r e) where
-  pub written : Rendered.Length r ≡ renderedOf (length d) l
+  pub written : Written.wrote r ≡ renderedOf (length d) l
   written =
       let q : r ≡ length (textOf l) = omega (arith, p .stop) in
       rw (le-ltb (length d) 55 h, q) refl

@@ -74,9 +74,18 @@ textOf (LogLine.Removed n a) = answerLine (ascii "R ") n a
 textOf (LogLine.Anomaly n x) = anomalyLine n x
 textOf (LogLine.End n k) = endLine n k
 
--- ---- a line at the front of a buffer, where that has room for any line, and else nothing
-abbrev pub renderedOf : ℕ → LogLine → Rendered
-renderedOf room l = cond (ltb room 55) Rendered.NoRoom (Rendered.Length (length (textOf l)))
+-- ---- a line at the front of a buffer, where that has room for any line, and else nothing: so many bytes were written, or there is no room
+pub data Written : Type 0 where
+  wrote : ℕ → Written
+  noRoom : Written
+
+-- what each case of `Rendered` means
+abbrev pub renderedMeans : Rendered → Written
+renderedMeans (Rendered.Length n) = wrote n
+renderedMeans Rendered.NoRoom = noRoom
+
+abbrev pub renderedOf : ℕ → LogLine → Written
+renderedOf room l = cond (ltb room 55) noRoom (wrote (length (textOf l)))
 
 abbrev pub bufferOf : List ℕ → LogLine → List ℕ
 bufferOf d l = cond (ltb (length d) 55) d (sets d 0 (textOf l))

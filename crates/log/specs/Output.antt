@@ -12,13 +12,10 @@ use Rattle.table.specs.declared.Answer.{Answer}
 use Rattle.table.specs.declared.Defined.{Defined}
 use Rattle.table.specs.Table.{tableOf, created, defined, define′, remove′}
 use Rattle.frames.specs.declared.CanFrame.{CanFrame}
-use Rattle.frames.specs.declared.Processed.{Processed}
-use Rattle.frames.specs.Frames.{processedFrame}
-use Rattle.log.specs.declared.decode.Request.{Request}
-use Rattle.log.specs.declared.decode.Item.{Item}
+use Rattle.frames.specs.Frames.{Framed, processedFrame}
 use Rattle.log.specs.declared.stream.Log.{Log}
 use Rattle.log.specs.declared.stream.Status.{Status}
-use Rattle.log.specs.Records.{itemOf}
+use Rattle.log.specs.Records.{Front, itemOf}
 use Rattle.log.specs.Lines.{ascii, answerLine, anomalyLines, endLine}
 
 -- ---- what the calls of the layers below answer, each under one name
@@ -31,7 +28,7 @@ definedBy e d = defined e (define′ (tableOf e) d)
 unfoldable pub removedBy : SignalIdsEngine → ℕ → Defined
 removedBy e slot = defined e (remove′ (tableOf e) slot)
 
-unfoldable pub processedBy : SignalIdsEngine → CanFrame → Processed
+unfoldable pub processedBy : SignalIdsEngine → CanFrame → Framed
 processedBy e f = processedFrame e f
 
 -- ---- a log so far: how many sound records there were, and the engine that they left.
@@ -43,23 +40,41 @@ startOf = record { count = 0; engine = createdBy (ofBits binary32 0) (ofBits bin
 abbrev pub countedOf : Log → SignalIdsEngine → Log
 countedOf log e = record { count = log .count + 1; engine = e }
 
+-- how a log stands
+pub data Standing : Type 0 where
+  -- a record was taken, and the next may follow
+  goes : Standing
+  -- the bytes at hand are no whole record
+  waits : Standing
+  -- there may be no room for what the next record prints
+  full : Standing
+  -- it has stopped, and its end line is printed
+  stopped : Standing
+
+-- what each case of `Status` means
+abbrev pub statusMeans : Status → Standing
+statusMeans Status.Going = goes
+statusMeans Status.Waiting = waits
+statusMeans Status.Full = full
+statusMeans Status.Ended = stopped
+
 -- what one record does: the log after it, how many bytes it took, what it printed, and how the log stands
 pub record Move : Type 0 where
   pub log : Log
   pub used : ℕ
   pub text : List ℕ
-  pub status : Status
+  pub status : Standing
 
 -- a sound record of n bytes
 abbrev pub goStep : Log → ℕ → List ℕ → SignalIdsEngine → Move
-goStep log n text e = record { log = countedOf log e; used = n; text = text; status = Status.Going }
+goStep log n text e = record { log = countedOf log e; used = n; text = text; status = goes }
 
 -- the log stops, with its number
 abbrev pub stopStep : Log → ℕ → Move
-stopStep log k = record { log = log; used = 0; text = endLine (log .count) k; status = Status.Ended }
+stopStep log k = record { log = log; used = 0; text = endLine (log .count) k; status = stopped }
 
 abbrev pub waiting : Log → Move
-waiting log = record { log = log; used = 0; text = []; status = Status.Waiting }
+waiting log = record { log = log; used = 0; text = []; status = waits }
 
 -- no whole record in the n bytes that are left: at the end of the input 0 if none is left, and else 11
 abbrev pub lastNumber : ℕ → ℕ
@@ -79,11 +94,6 @@ settledStep log e (Answer.Refused k) = stopStep log k
 abbrev pub calledStep : Log → List ℕ → ℕ → Defined → Move
 calledStep log letter n r = goStep log n (answerLine letter (log .count + 1) (r .answer)) (r .engine)
 
-abbrev pub requestStep : Log → Request → Move
-requestStep log (Request.Settings a t) = settledStep log (createdBy a t .engine) (createdBy a t .answer)
-requestStep log (Request.Define d) = calledStep log (ascii "D ") 24 (definedBy (log .engine) d)
-requestStep log (Request.Remove k) = calledStep log (ascii "R ") 4 (removedBy (log .engine) k)
-
 -- a frame prints a line for each listed anomaly
 abbrev pub frameStep : Log → CanFrame → Move
 frameStep log f =
@@ -97,22 +107,28 @@ dataOf s = take 8 (drop 8 s)
 abbrev pub frameAt : ℕ → Bool → ℕ → List ℕ → CanFrame
 frameAt id extended n s = record { id = id; «is_extended» = extended; length = n; «data» = dataOf s }
 
--- what an item does that stands at the front of the bytes s; `ended` says whether the input ends with them
-abbrev pub itemStep : Bool → Log → List ℕ → Item → Move
-itemStep ended log s Item.Wait = waitStep ended log (length s)
-itemStep ended log s (Item.Stop k) = stopStep log k
-itemStep ended log s (Item.Call q) = requestStep log q
-itemStep ended log s (Item.Frame i x n) = frameStep log (frameAt i x n s)
+-- what stands at the front of the bytes s does this; `ended` says whether the input ends with them
+abbrev pub itemStep : Bool → Log → List ℕ → Front → Move
+itemStep ended log s Front.incomplete = waitStep ended log (length s)
+itemStep ended log s (Front.fault k) = stopStep log k
+itemStep ended log s (Front.settings a t) = settledStep log (createdBy a t .engine) (createdBy a t .answer)
+itemStep ended log s (Front.definition d) = calledStep log (ascii "D ") 24 (definedBy (log .engine) d)
+itemStep ended log s (Front.removal k) = calledStep log (ascii "R ") 4 (removedBy (log .engine) k)
+itemStep ended log s (Front.frame i x n) = frameStep log (frameAt i x n s)
+
+-- the same of a record for the table: neither the bytes behind it nor the end of the input matter
+abbrev pub requestStep : Log → Front → Move
+requestStep log i = itemStep false log [] i
 
 unfoldable pub stepOf : Bool → Log → List ℕ → Move
 stepOf ended log s = itemStep ended log s (itemOf (log .count) s)
 
 -- ---- THE DEFINITION: what is printed for the bytes of an input, record by record until the log stops
-abbrev pub goesOn : Status → Bool
-goesOn Status.Going = true
-goesOn Status.Waiting = false
-goesOn Status.Full = false
-goesOn Status.Ended = false
+abbrev pub goesOn : Standing → Bool
+goesOn goes = true
+goesOn waits = false
+goesOn full = false
+goesOn stopped = false
 
 -- by at most f records
 unfoldable pub run : ℕ → Log → List ℕ → List ℕ

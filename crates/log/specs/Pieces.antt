@@ -11,7 +11,7 @@ use Rattle.log.specs.declared.stream.Log.{Log}
 use Rattle.log.specs.declared.stream.Status.{Status}
 use Rattle.log.specs.declared.stream.Step.{Step}
 use Rattle.log.specs.Lines.{Put}
-use Rattle.log.specs.Output.{Move, countedOf, stepOf, goesOn, outputFrom}
+use Rattle.log.specs.Output.{Standing, statusMeans, Move, countedOf, stepOf, goesOn, outputFrom}
 
 -- ---- one call: records one by one, while they are whole and there is room for what any record prints
 
@@ -20,7 +20,7 @@ abbrev pub roomOf : ℕ
 roomOf = 512
 
 abbrev pub fullMove : Log → Move
-fullMove log = record { log = log; used = 0; text = []; status = Status.Full }
+fullMove log = record { log = log; used = 0; text = []; status = Standing.full }
 
 -- a move behind a move
 abbrev pub behind : Move → Move → Move
@@ -46,7 +46,7 @@ pub record Does (d : List ℕ) (at : ℕ) (m : Move) (r : Step) (e : List ℕ) :
   pub log : r .log ≡ m .log
   pub used : r .used ≡ m .used
   pub put : Put d at (m .text) (r .end) e
-  pub status : r .status ≡ m .status
+  pub status : statusMeans (r .status) ≡ m .status
 
 -- what a call answers
 abbrev pub answerOf : Log → ℕ → ℕ → Status → Step
@@ -62,11 +62,11 @@ abbrev pub concat : List (List ℕ) → List ℕ
 concat [] = []
 concat (x ∷ xs) = x ++ concat xs
 
-abbrev pub isEnded : Status → Bool
-isEnded Status.Going = false
-isEnded Status.Waiting = false
-isEnded Status.Full = false
-isEnded Status.Ended = true
+abbrev pub isEnded : Standing → Bool
+isEnded Standing.goes = false
+isEnded Standing.waits = false
+isEnded Standing.full = false
+isEnded Standing.stopped = true
 
 -- what is still to be printed after a move, s the bytes that it left and all behind them
 abbrev pub left : Move → List ℕ → List ℕ
@@ -80,3 +80,9 @@ pub data Calls : Log → List ℕ → List (List ℕ) → List ℕ → Type 0 wh
       → isEnded (m .status) ≡ false → Calls (m .log) (drop (m .used) p) xs t → Calls log p xs (m .text ++ t)
   last : {log : Log} {p : List ℕ} {xs : List (List ℕ)} (room : ℕ) (ended : Bool) → (ended ≡ true → concat xs ≡ []) → (m : Move) → m ≡ advanceOf room ended log p
       → isEnded (m .status) ≡ true → Calls log p xs (m .text)
+
+-- the rooms of its calls, in order
+abbrev pub rooms : {log : Log} {p : List ℕ} {xs : List (List ℕ)} {t : List ℕ} → Calls log p xs t → List ℕ
+rooms (read c) = rooms c
+rooms (call room ended h m q d c) = room ∷ rooms c
+rooms (last room ended h m q d) = room ∷ []

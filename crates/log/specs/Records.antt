@@ -13,6 +13,30 @@ use Rattle.log.specs.declared.decode.Mark.{Mark}
 use Rattle.log.specs.declared.decode.Request.{Request}
 use Rattle.log.specs.declared.decode.Item.{Item}
 
+-- ---- what may stand at the front of the bytes
+pub data Front : Type 0 where
+  -- no byte, or a part of a record
+  incomplete : Front
+  -- the log stops, with this number
+  fault : ℕ → Front
+  -- a record: alpha and threshold; a definition; a slot; a frame's identifier, whether that is extended, and its length
+  settings : Float → Float → Front
+  definition : SignalDefinition → Front
+  removal : ℕ → Front
+  frame : ℕ → Bool → ℕ → Front
+
+-- what each case of `Item` means
+abbrev pub requestMeans : Request → Front
+requestMeans (Request.Settings alpha threshold) = settings alpha threshold
+requestMeans (Request.Define d) = definition d
+requestMeans (Request.Remove slot) = removal slot
+
+abbrev pub itemMeans : Item → Front
+itemMeans Item.Wait = incomplete
+itemMeans (Item.Call q) = requestMeans q
+itemMeans (Item.Frame id extended n) = frame id extended n
+itemMeans (Item.Stop k) = fault k
+
 -- ---- the mark: A5 50, A5 44, A5 52 or A5 46
 unfoldable pub markOf : ℕ → ℕ → Mark
 markOf a b =
@@ -41,8 +65,8 @@ abbrev pub float : List ℕ → ℕ → Float
 float s i = ofBits binary32 (le32 s i)
 
 -- ---- settings: alpha, threshold
-unfoldable pub settingsOf : List ℕ → Item
-settingsOf s = Item.Call (Request.Settings (float s 2) (float s 6))
+unfoldable pub settingsOf : List ℕ → Front
+settingsOf s = settings (float s 2) (float s 6)
 
 -- ---- a definition. Its flags from bit 0, each by its power of two: extended, Motorola, signed, multiplexor, has condition
 abbrev pub flag : ℕ → ℕ → Bool
@@ -75,26 +99,26 @@ definitionOf s flags =
       condition = conditionOf flags (le16 s 22);
     }
 
-unfoldable pub defineOf : List ℕ → Item
-defineOf s = cond (badFlags (getD s 6 0) (le16 s 22)) (Item.Stop 13) (Item.Call (Request.Define (definitionOf s (getD s 6 0))))
+unfoldable pub defineOf : List ℕ → Front
+defineOf s = cond (badFlags (getD s 6 0) (le16 s 22)) (fault 13) (definition (definitionOf s (getD s 6 0)))
 
 -- ---- a removal: slot
-unfoldable pub removeOf : List ℕ → Item
-removeOf s = Item.Call (Request.Remove (le16 s 2))
+unfoldable pub removeOf : List ℕ → Front
+removeOf s = removal (le16 s 2)
 
 -- ---- a frame: flags, of which bit 0 is extended; length, at most 15; identifier. Its eight data bytes follow
-unfoldable pub frameOf : List ℕ → Item
+unfoldable pub frameOf : List ℕ → Front
 frameOf s =
-    cond (leb 2 (getD s 2 0)) (Item.Stop 13)
-    (cond (ltb 15 (getD s 3 0)) (Item.Stop 14) (Item.Frame (le32 s 4) (eqb (getD s 2 0) 1) (getD s 3 0)))
+    cond (leb 2 (getD s 2 0)) (fault 13)
+    (cond (ltb 15 (getD s 3 0)) (fault 14) (frame (le32 s 4) (eqb (getD s 2 0) 1) (getD s 3 0)))
 
 -- ---- the record that a mark is the mark of, s being its bytes
-abbrev pub recordOf : List ℕ → Mark → Item
+abbrev pub recordOf : List ℕ → Mark → Front
 recordOf s Mark.Settings = settingsOf s
 recordOf s Mark.Definition = defineOf s
 recordOf s Mark.Removal = removeOf s
 recordOf s Mark.Frame = frameOf s
-recordOf s Mark.Unknown = Item.Stop 10
+recordOf s Mark.Unknown = fault 10
 
 -- after n sound records: the first has to be the settings, and no later one may be
 abbrev pub misplaced : ℕ → Mark → Bool
@@ -105,14 +129,14 @@ misplaced n Mark.Frame = eqb n 0
 misplaced n Mark.Unknown = false
 
 -- behind a mark: a record that is cut waits for its rest, one at a wrong place stops with 12, and else its own bytes decide
-abbrev pub marked : ℕ → List ℕ → Mark → Item
-marked n s k = cond (ltb (length s) (sizeOf k)) Item.Wait (cond (misplaced n k) (Item.Stop 12) (recordOf (take (sizeOf k) s) k))
+abbrev pub marked : ℕ → List ℕ → Mark → Front
+marked n s k = cond (ltb (length s) (sizeOf k)) incomplete (cond (misplaced n k) (fault 12) (recordOf (take (sizeOf k) s) k))
 
 -- what stands at the front of the bytes, after n sound records. Whether the input ends where the bytes do is not asked here:
 -- what is cut waits, and at the end of the input that is 11 (`waitStep` of Output)
-unfoldable pub itemOf : ℕ → List ℕ → Item
+unfoldable pub itemOf : ℕ → List ℕ → Front
 itemOf n s =
-    cond (eqb (length s) 0) Item.Wait
-    (cond (eqb n 4294967295) (Item.Stop 15)
-    (cond (eqb (length s) 1) Item.Wait
+    cond (eqb (length s) 0) incomplete
+    (cond (eqb n 4294967295) (fault 15)
+    (cond (eqb (length s) 1) incomplete
     (marked n s (markOf (getD s 0 0) (getD s 1 0)))))

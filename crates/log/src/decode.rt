@@ -2,7 +2,7 @@
 ghost use mathlib.Core.Path.{_≡_};
 ghost use Prim.Native.Nat.{_+_, _<_};
 ghost use lib.ListN.{length};
-ghost use Rattle.log.specs.Records.{le16, le32, markOf, sizeOf, settingsOf, defineOf, removeOf, frameOf, recordOf, itemOf, misplaced, badFlags, conditionOf, orderOf};
+ghost use Rattle.log.specs.Records.{itemMeans, le16, le32, markOf, sizeOf, settingsOf, defineOf, removeOf, frameOf, recordOf, itemOf, misplaced, badFlags, conditionOf, orderOf};
 use bits::ByteOrder;
 use conversion::Condition;
 use conversion::SignalDefinition;
@@ -100,7 +100,7 @@ fn size_of(k: Mark) -> usize
 
 fn settings(s: &[u8]) -> Item
     requires { ⌜ length (now s) ≡ 10 ⌝ }
-    ensures { λ r. ⌜ r ≡ settingsOf (now (s .entry)) ⌝ }
+    ensures { λ r. ⌜ itemMeans r ≡ settingsOf (now (s .entry)) ⌝ }
 {
     let alpha = f32_of_bits(u32_at(s, 2));
     let threshold = f32_of_bits(u32_at(s, 6));
@@ -140,7 +140,7 @@ fn order_of(flags: u8) -> ByteOrder
 
 fn define(s: &[u8]) -> Item
     requires { ⌜ length (now s) ≡ 24 ⌝ }
-    ensures { λ r. ⌜ r ≡ defineOf (now (s .entry)) ⌝ }
+    ensures { λ r. ⌜ itemMeans r ≡ defineOf (now (s .entry)) ⌝ }
 {
     let flags = s[6];
     let number = u16_at(s, 22);
@@ -165,14 +165,14 @@ fn define(s: &[u8]) -> Item
 
 fn remove(s: &[u8]) -> Item
     requires { ⌜ length (now s) ≡ 4 ⌝ }
-    ensures { λ r. ⌜ r ≡ removeOf (now (s .entry)) ⌝ }
+    ensures { λ r. ⌜ itemMeans r ≡ removeOf (now (s .entry)) ⌝ }
 {
     Item::Call(Request::Remove(u16_at(s, 2)))
 }
 
 fn frame(s: &[u8]) -> Item
     requires { ⌜ length (now s) ≡ 16 ⌝ }
-    ensures { λ r. ⌜ r ≡ frameOf (now (s .entry)) ⌝ }
+    ensures { λ r. ⌜ itemMeans r ≡ frameOf (now (s .entry)) ⌝ }
 {
     let flags = s[2];
     let length = s[3];
@@ -188,7 +188,7 @@ fn frame(s: &[u8]) -> Item
 // The record whose mark is k and whose bytes are s.
 fn record_of(s: &[u8], k: Mark) -> Item
     requires { ⌜ length (now s) ≡ sizeOf k ⌝ }
-    ensures { λ r. ⌜ r ≡ recordOf (now (s .entry)) k ⌝ }
+    ensures { λ r. ⌜ itemMeans r ≡ recordOf (now (s .entry)) k ⌝ }
 {
     match k {
         Mark::Settings => settings(s),
@@ -214,7 +214,7 @@ fn is_misplaced(count: u32, k: Mark) -> bool
 
 // What stands at the front of the bytes, after `count` sound records.
 pub fn item_at_front(count: u32, s: &[u8]) -> Item
-    ensures { λ r. ⌜ r ≡ itemOf count (now (s .entry)) ⌝ }
+    ensures { λ r. ⌜ itemMeans r ≡ itemOf count (now (s .entry)) ⌝ }
 {
     if s.len() == 0 {
         return Item::Wait;

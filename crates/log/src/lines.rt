@@ -2,7 +2,7 @@
 ghost use mathlib.Core.Path.{_≡_};
 ghost use Prim.Native.Nat.{_+_, _<_, _≤_, _*_};
 ghost use lib.ListN.{length, take};
-ghost use Rattle.log.specs.Lines.{Put, upper, hex8, decimal, numbers, line, field, answerLine, anomalyLine, anomalyLines, endLine, textOf, renderedOf, bufferOf};
+ghost use Rattle.log.specs.Lines.{Put, upper, hex8, decimal, numbers, line, field, answerLine, anomalyLine, anomalyLines, endLine, textOf, renderedMeans, renderedOf, bufferOf};
 use conversion::bits_of_f32;
 use frames::SignalAnomaly;
 use table::Answer;
@@ -189,7 +189,7 @@ fn put_text(out: &mut [u8], at: usize, text: LogLine) -> usize
 
 // The line at the front of the buffer, which has to have 55 bytes: no line is longer.
 pub fn render(text: LogLine, out: &mut [u8]) -> Rendered
-    ensures { λ r. ⌜ r ≡ renderedOf (length (now (out .entry))) text ⌝ }
+    ensures { λ r. ⌜ renderedMeans r ≡ renderedOf (length (now (out .entry))) text ⌝ }
     ensures { λ _. ⌜ now (out .exit) ≡ bufferOf (now (out .entry)) text ⌝ }
 {
     if out.len() < 55 {

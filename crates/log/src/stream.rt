@@ -2,7 +2,8 @@
 ghost use mathlib.Core.Path.{_≡_};
 ghost use Prim.Native.Nat.{_+_, _<_, _≤_};
 ghost use lib.ListN.{length};
-ghost use Rattle.log.specs.Output.{startOf, frameAt, goesOn, lastNumber, stopStep, waitStep, settledStep, calledStep, requestStep};
+ghost use Rattle.log.specs.Records.{requestMeans};
+ghost use Rattle.log.specs.Output.{startOf, frameAt, statusMeans, goesOn, lastNumber, stopStep, waitStep, settledStep, calledStep, requestStep};
 ghost use Rattle.log.specs.Pieces.{Does, after, answerOf, soundOf, advanceOf};
 use crate::decode::Item;
 use crate::decode::Request;
@@ -105,7 +106,7 @@ fn last_number(left: usize) -> u8
 
 // The log stops, `used` bytes having been taken before.
 fn on_stop(log: Log, used: usize, k: u8, out: &mut [u8], at: usize) -> Step
-    requires { ⌜ at + 512 ≤ length (now out) ⌝ }
+    requires { ⌜ at + 26 ≤ length (now out) ⌝ }
     ensures { λ r. ⌜ Does (now (out .entry)) at (after used (stopStep log k)) r (now (out .exit)) ⌝ }
 {
     let n = log.count;
@@ -115,7 +116,7 @@ fn on_stop(log: Log, used: usize, k: u8, out: &mut [u8], at: usize) -> Step
 
 // No whole record at hand: at the end of the input the log ends, and else it waits.
 fn on_wait(log: Log, used: usize, left: usize, ended: bool, out: &mut [u8], at: usize) -> Step
-    requires { ⌜ at + 512 ≤ length (now out) ⌝ }
+    requires { ⌜ at + 26 ≤ length (now out) ⌝ }
     ensures { λ r. ⌜ Does (now (out .entry)) at (after used (waitStep ended log left)) r (now (out .exit)) ⌝ }
 {
     if ended {
@@ -126,7 +127,7 @@ fn on_wait(log: Log, used: usize, left: usize, ended: bool, out: &mut [u8], at: 
 
 // Settings that are refused stop the log.
 fn on_settled(log: Log, made: Defined, out: &mut [u8], at: usize) -> Step
-    requires { ⌜ (log .count < 4294967295) × (at + 512 ≤ length (now out)) ⌝ }
+    requires { ⌜ (log .count < 4294967295) × (at + 26 ≤ length (now out)) ⌝ }
     ensures { λ r. ⌜ Does (now (out .entry)) at (settledStep log (made .engine) (made .answer)) r (now (out .exit)) ⌝ }
 {
     let engine = made.engine;
@@ -140,7 +141,7 @@ fn on_settled(log: Log, made: Defined, out: &mut [u8], at: usize) -> Step
 
 // A table call is answered in a line, refused or not.
 fn on_called(log: Log, done: Defined, letter: &[u8], used: usize, out: &mut [u8], at: usize) -> Step
-    requires { ⌜ (log .count < 4294967295) × (length (now letter) ≡ 2) × (at + 512 ≤ length (now out)) ⌝ }
+    requires { ⌜ (log .count < 4294967295) × (length (now letter) ≡ 2) × (at + 32 ≤ length (now out)) ⌝ }
     ensures { λ r. ⌜ Does (now (out .entry)) at (calledStep log (now (letter .entry)) used done) r (now (out .exit)) ⌝ }
 {
     let n = log.count;
@@ -152,8 +153,8 @@ fn on_called(log: Log, done: Defined, letter: &[u8], used: usize, out: &mut [u8]
 
 // What a record asks of the table is done, and answered.
 fn on_request(log: Log, q: Request, out: &mut [u8], at: usize) -> Step
-    requires { ⌜ (log .count < 4294967295) × (at + 512 ≤ length (now out)) ⌝ }
-    ensures { λ r. ⌜ Does (now (out .entry)) at (requestStep log q) r (now (out .exit)) ⌝ }
+    requires { ⌜ (log .count < 4294967295) × (at + 32 ≤ length (now out)) ⌝ }
+    ensures { λ r. ⌜ Does (now (out .entry)) at (requestStep log (requestMeans q)) r (now (out .exit)) ⌝ }
 {
     let engine = log.engine;
     match q {
@@ -174,7 +175,7 @@ fn on_request(log: Log, q: Request, out: &mut [u8], at: usize) -> Step
 
 // Whether the next record may follow.
 fn goes_on(status: Status) -> bool
-    ensures { λ r. ⌜ r ≡ goesOn status ⌝ }
+    ensures { λ r. ⌜ r ≡ goesOn (statusMeans status) ⌝ }
 {
     match status {
         Status::Going => true,

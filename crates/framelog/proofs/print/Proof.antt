@@ -5,6 +5,7 @@ use native.Mathlib.Omega.{arith}
 use denote.Ref.{now}
 use Rattle.io.specs.Counts.{Counts}
 use Rattle.framelog.proofs.Down.{worked}
+use Rattle.framelog.proofs.Turns.{printed}
 use borrow.Author.Needs.{needs}
 use Rattle.framelog.proofs.print.Statement.{statement}
 use Rattle.framelog.proofs.print.Tie as tie
@@ -18,23 +19,20 @@ at-work c =
 work-requires : tie.Need-work-requires
 work-requires c κs = search needs
 
+sub-left : tie.Need-sub-left
+sub-left c = omega (arith, at-work (c .before .before .before .before .before) .0)
+
 slice-reshare-prefix-write-all : tie.Need-slice-reshare-prefix-write-all
-slice-reshare-prefix-write-all c = at-work (c .before .before .before .before .before) .1 .0
+slice-reshare-prefix-write-all c = at-work (c .before .before .before .before .before .before) .1 .0
 
 slice-aggregate-write-all : tie.Need-slice-aggregate-write-all
-slice-aggregate-write-all c = at-work (c .before .before .before .before .before .before) .1 .1
+slice-aggregate-write-all c = at-work (c .before .before .before .before .before .before .before) .1 .1
 
 write-all-requires : tie.Need-write-all-requires
 write-all-requires c κs = search needs
 
-slice-aggregate-fail : tie.Need-slice-aggregate-fail
-slice-aggregate-fail c = search needs
-
-fail-requires : tie.Need-fail-requires
-fail-requires c κs = search needs
-
-stopped-requires : tie.Need-stopped-requires
-stopped-requires c κs = search needs
+after-write-requires : tie.Need-after-write-requires
+after-write-requires c κs = search needs
 
 same-length : tie.Need-same-length
 same-length c = search needs
@@ -43,43 +41,18 @@ same-length-2 : tie.Need-same-length-2
 same-length-2 c = search needs
 
 returns : tie.Need-returns
-returns c = search needs
-
-sub-t23 : tie.Need-sub-t23
-sub-t23 c = omega (arith, at-work (c .before .before .before .before .before .before .before .before) .0)
-
-is-waiting-requires : tie.Need-is-waiting-requires
-is-waiting-requires c κs = search needs
-
-is-ended-requires : tie.Need-is-ended-requires
-is-ended-requires c κs = search needs
-
-same-length-3 : tie.Need-same-length-3
-same-length-3 c = search needs
-
-same-length-4 : tie.Need-same-length-4
-same-length-4 c = search needs
-
-returns-2 : tie.Need-returns-2
-returns-2 c = search needs
+returns c = printed _ _ _ _ _ (c .before .write-all .result) (c .before .before .before .before .before .before .before .before .before .work .ensures .0) (c .before .before .before .before .before .before .before .before .before .work .ensures .1) (c .after-write .ensures)
 
 pub print-spec : {M : Type 1} → statement M
 print-spec =
     tie.close
     (tie.spec
     work-requires
+    sub-left
     slice-reshare-prefix-write-all
     slice-aggregate-write-all
     write-all-requires
-    slice-aggregate-fail
-    fail-requires
-    stopped-requires
+    after-write-requires
     same-length
     same-length-2
-    returns
-    sub-t23
-    is-waiting-requires
-    is-ended-requires
-    same-length-3
-    same-length-4
-    returns-2)
+    returns)

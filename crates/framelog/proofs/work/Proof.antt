@@ -2,6 +2,7 @@
 -- Assumes nothing.
 use denote.Ref.{now}
 use mathlib.Core.Path.{sym}
+use native.Mathlib.Omega.{arith}
 use Rattle.framelog.proofs.Down.{worked}
 use lib.Seq.{length-take-le}
 use borrow.Author.Needs.{needs}
@@ -18,7 +19,9 @@ advance-requires : tie.Need-advance-requires
 advance-requires c κs = search needs
 
 move-down-requires : tie.Need-move-down-requires
-move-down-requires c κs = (worked (c .before .before .before .before .before .before .before .before .args .ended) (c .before .before .before .before .before .before .before .before .args .log) (c .before .before .before .before .before .before .before .before .args .have) (now (c .before .before .before .before .before .before .before .before .args .input)) (c .before .before .before .before .before .before .before .before .pre) (c .before .before .before .advance .ensures) .0, c .before .before .before .before .before .before .before .before .pre)
+move-down-requires c κs =
+    let start = c .before .before .before .before .before .before .before .before in
+    (omega (arith, worked _ _ (start .args .have) (now (start .args .input)) (start .pre) (c .before .before .before .advance .ensures) .0, start .pre), start .pre)
 
 same-length : tie.Need-same-length
 same-length c = search needs

@@ -56,7 +56,7 @@ same-length c = omega arith
 returns : tie.Need-returns Inv-loop μ-loop
 returns c =
     let here = c .before .before .before .before .before .before in
-    waits (here .before .before .before .loop .inv) (here .before .before .loop-test .taken) (here .item-at-front .ensures) (c .before .before .before .before .enum-told .given .1) (c .before .before .on-wait .ensures)
+    waits (here .before .before .before .loop .inv) (here .before .before .loop-test .taken) _ (here .item-at-front .ensures) (c .before .before .before .before .enum-told .given .1) (c .before .before .on-wait .ensures)
 
 enum-known-k : tie.Need-enum-known-k Inv-loop μ-loop
 enum-known-k c = search needs
@@ -70,7 +70,7 @@ same-length-2 c = omega arith
 returns-2 : tie.Need-returns-2 Inv-loop μ-loop
 returns-2 c =
     let here = c .before .before .before .before .before .before .before in
-    stops (here .before .before .before .loop .inv) (here .before .before .loop-test .taken) (here .item-at-front .ensures) _ (c .before .before .before .before .before .k .given .1) (c .before .before .on-stop .ensures)
+    stops (here .before .before .before .loop .inv) (here .before .before .loop-test .taken) _ (here .item-at-front .ensures) _ (c .before .before .before .before .before .k .given .1) (c .before .before .on-stop .ensures)
 
 enum-known-q : tie.Need-enum-known-q Inv-loop μ-loop
 enum-known-q c = search needs
@@ -78,12 +78,12 @@ enum-known-q c = search needs
 on-request-requires : tie.Need-on-request-requires Inv-loop μ-loop
 on-request-requires c κs =
     let here = c .before .before .before .before in
-    (call-counts (here .before .before .before .loop .inv) (here .before .before .loop-test .taken) (here .item-at-front .ensures) _ (c .before .before .q .given .1), omega arith)
+    (call-counts (here .before .before .before .loop .inv) (here .before .before .loop-test .taken) _ (here .item-at-front .ensures) _ (c .before .before .q .given .1), omega arith)
 
 add-used : tie.Need-add-used Inv-loop μ-loop
 add-used c =
     let here = c .before .before .before .before .before .before .before .before .before in
-    omega (arith, call-used (here .before .before .before .loop .inv) (here .before .before .loop-test .taken) (here .item-at-front .ensures) _ (c .before .before .before .before .before .before .before .q .given .1) (c .before .before .before .before .on-request .ensures), c .before .before .before .before .before .before .before .before .before .before .before .before .before .before .before .before .good .1 .0 .0)
+    omega (arith, call-used (here .before .before .before .loop .inv) (here .before .before .loop-test .taken) _ (here .item-at-front .ensures) _ (c .before .before .before .before .before .before .before .q .given .1) (c .before .before .before .before .on-request .ensures), c .before .before .before .before .before .before .before .before .before .before .before .before .before .before .before .before .good .1 .0 .0)
 
 goes-on-requires : tie.Need-goes-on-requires Inv-loop μ-loop
 goes-on-requires c κs = search needs
@@ -97,17 +97,17 @@ same-length-3 c = omega (arith, c .before .before .before .before .before .befor
 returns-3 : tie.Need-returns-3 Inv-loop μ-loop
 returns-3 c =
     let here = c .before .before .before .before .before .before .before .before .before .before .before .before in
-    told (c .answer .ensures) (call-last (here .before .before .before .loop .inv) (here .before .before .loop-test .taken) (here .item-at-front .ensures) _ (c .before .before .before .before .before .before .before .before .before .before .q .given .1) (c .before .before .before .before .before .before .before .on-request .ensures) (sym (c .before .before .goes-on .ensures) ∙ not-true _ (c .before .if1 .taken)))
+    told (c .answer .ensures) (call-last (here .before .before .before .loop .inv) (here .before .before .loop-test .taken) _ (here .item-at-front .ensures) _ (c .before .before .before .before .before .before .before .before .before .before .q .given .1) (c .before .before .before .before .before .before .before .on-request .ensures) (sym (c .before .before .goes-on .ensures) ∙ not-true _ (c .before .if1 .taken)))
 
 loop-less : tie.Need-loop-less Inv-loop μ-loop
 loop-less c =
     let here = c .before .before .before .before .before .before .before .before .before .before .before .before in
-    call-less (here .before .before .before .loop .inv) (here .before .before .loop-test .taken) (here .item-at-front .ensures) _ (c .before .before .before .before .before .before .before .before .before .before .q .given .1) (c .before .before .before .before .before .before .before .on-request .ensures) (sym (c .before .before .goes-on .ensures) ∙ not-false _ (c .before .if1 .left))
+    call-less (here .before .before .before .loop .inv) (here .before .before .loop-test .taken) _ (here .item-at-front .ensures) _ (c .before .before .before .before .before .before .before .before .before .before .q .given .1) (c .before .before .before .before .before .before .before .on-request .ensures) (sym (c .before .before .goes-on .ensures) ∙ not-false _ (c .before .if1 .left))
 
 loop-again : tie.Need-loop-again Inv-loop μ-loop
 loop-again c =
     let here = c .before .before .before .before .before .before .before .before .before .before .before .before in
-    call-more (here .before .before .before .loop .inv) (here .before .before .loop-test .taken) (here .item-at-front .ensures) _ (c .before .before .before .before .before .before .before .before .before .before .q .given .1) (c .before .before .before .before .before .before .before .on-request .ensures) (sym (c .before .before .goes-on .ensures) ∙ not-false _ (c .before .if1 .left))
+    call-more (here .before .before .before .loop .inv) (here .before .before .loop-test .taken) _ (here .item-at-front .ensures) _ (c .before .before .before .before .before .before .before .before .before .before .q .given .1) (c .before .before .before .before .before .before .before .on-request .ensures) (sym (c .before .before .goes-on .ensures) ∙ not-false _ (c .before .if1 .left))
 
 enum-known-id : tie.Need-enum-known-id Inv-loop μ-loop
 enum-known-id c = search needs
@@ -124,7 +124,7 @@ part-frame-of-end c = omega arith
 frame-of-requires : tie.Need-frame-of-requires Inv-loop μ-loop
 frame-of-requires c κs =
     let here = c .before .before .before .before in
-    frame-bytes (here .before .before .before .loop .inv) (here .before .before .loop-test .taken) (here .item-at-front .ensures) _ _ _ (c .before .before .id .given .1)
+    frame-bytes (here .before .before .before .loop .inv) (here .before .before .loop-test .taken) _ (here .item-at-front .ensures) _ _ _ (c .before .before .id .given .1)
 
 process-frame-requires : tie.Need-process-frame-requires Inv-loop μ-loop
 process-frame-requires c κs = search needs
@@ -132,27 +132,27 @@ process-frame-requires c κs = search needs
 add-count : tie.Need-add-count Inv-loop μ-loop
 add-count c =
     let here = c .before .before .before .before .before .before .before .before .before in
-    omega (arith, frame-counts (here .before .before .before .loop .inv) (here .before .before .loop-test .taken) (here .item-at-front .ensures) _ _ _ (c .before .before .before .before .before .before .before .id .given .1))
+    omega (arith, frame-counts (here .before .before .before .loop .inv) (here .before .before .loop-test .taken) _ (here .item-at-front .ensures) _ _ _ (c .before .before .before .before .before .before .before .id .given .1))
 
 add-used-2 : tie.Need-add-used-2 Inv-loop μ-loop
 add-used-2 c =
     let here = c .before .before .before .before .before .before .before .before .before in
-    omega (arith, frame-used (here .before .before .before .loop .inv) (here .before .before .loop-test .taken) (here .item-at-front .ensures) _ _ _ (c .before .before .before .before .before .before .before .id .given .1), c .before .before .before .before .before .before .before .before .before .before .before .before .before .before .before .before .good .1 .0 .0)
+    omega (arith, frame-used (here .before .before .before .loop .inv) (here .before .before .loop-test .taken) _ (here .item-at-front .ensures) _ _ _ (c .before .before .before .before .before .before .before .id .given .1), c .before .before .before .before .before .before .before .before .before .before .before .before .before .before .before .before .good .1 .0 .0)
 
 put-anomalies-requires : tie.Need-put-anomalies-requires Inv-loop μ-loop
 put-anomalies-requires c κs =
     let here = c .before .before .before .before .before .before .before .before .before .before in
-    frame-room (here .before .before .before .loop .inv) (here .before .before .loop-test .taken) (here .item-at-front .ensures) _ _ _ (c .before .before .before .before .before .before .before .before .id .given .1) (c .before .before .before .before .before .frame-of .ensures) (by-frame _ _ (c .before .before .before .before .process-frame .ensures))
+    frame-room (here .before .before .before .loop .inv) (here .before .before .loop-test .taken) _ (here .item-at-front .ensures) _ _ _ (c .before .before .before .before .before .before .before .before .id .given .1) (c .before .before .before .before .before .frame-of .ensures) (c .before .before .before .before .process-frame .result) (by-frame (c .before .before .before .before .process-frame .result) _ _ (c .before .before .before .before .process-frame .ensures))
 
 loop-less-2 : tie.Need-loop-less-2 Inv-loop μ-loop
 loop-less-2 c =
     let here = c .before .before .before .before .before .before .before .before .before .before .before .before .before in
-    frame-less (here .before .before .before .loop .inv) (here .before .before .loop-test .taken) (here .item-at-front .ensures) _ _ _ (c .before .before .before .before .before .before .before .before .before .before .before .id .given .1)
+    frame-less (here .before .before .before .loop .inv) (here .before .before .loop-test .taken) _ (here .item-at-front .ensures) _ _ _ (c .before .before .before .before .before .before .before .before .before .before .before .id .given .1)
 
 loop-again-2 : tie.Need-loop-again-2 Inv-loop μ-loop
 loop-again-2 c =
     let here = c .before .before .before .before .before .before .before .before .before .before .before .before .before in
-    frame-more (here .before .before .before .loop .inv) (here .before .before .loop-test .taken) (here .item-at-front .ensures) _ _ _ (c .before .before .before .before .before .before .before .before .before .before .before .id .given .1) (c .before .before .before .before .before .before .before .before .frame-of .ensures) (by-frame _ _ (c .before .before .before .before .before .before .before .process-frame .ensures)) (c .before .before .put-anomalies .ensures)
+    frame-more (here .before .before .before .loop .inv) (here .before .before .loop-test .taken) _ (here .item-at-front .ensures) _ _ _ (c .before .before .before .before .before .before .before .before .before .before .before .id .given .1) (c .before .before .before .before .before .before .before .before .frame-of .ensures) (c .before .before .before .before .before .before .before .process-frame .result) (by-frame (c .before .before .before .before .before .before .before .process-frame .result) _ _ (c .before .before .before .before .before .before .before .process-frame .ensures)) (c .before .before .put-anomalies .ensures)
 
 answer-requires-2 : tie.Need-answer-requires-2 Inv-loop μ-loop
 answer-requires-2 c κs = search needs

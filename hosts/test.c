@@ -1,6 +1,6 @@
 /* A host in C: lends detectors to libhost.a and compares each answer, and every field after it, with the steps in the file that it is given.
  * A line of that file is a call's letter and four numbers, then kind or refusal, score and flag, then the nine fields of the detector;
- * all hexadecimal, floats by their bits. hosts/check writes it from the original Rust. */
+ * all hexadecimal, floats by their bits. The oracle's program `steps` writes it from the original Rust. */
 #include "shedgrommet_detector.h"
 
 #include <inttypes.h>
@@ -112,6 +112,6 @@ int main(int count, char **words)
         }
     }
     fclose(file);
-    printf("%d steps in C", steps);
+    printf("%d", steps);
     return steps > 0 ? 0 : 1;
 }

@@ -4,14 +4,16 @@ use crate::script::low32;
 use crate::script::number;
 use crate::show::put_byte;
 use crate::show::put_detector;
-use crate::show::put_flag;
-use crate::show::put_float;
-use crate::show::put_refused;
+use crate::show::put_field;
 use crate::show::put_text;
+use crate::show::put_words;
+use conversion::bits_of_f32;
 use detector::EwmaDetector;
 use detector::Made;
 use detector::Reset;
+use detector::Updated;
 use detector::Verdict;
+use detector::update_in_place;
 
 // The detector, if there is one, and the place behind what was written.
 pub struct Kept {
@@ -20,34 +22,35 @@ pub struct Kept {
     pub at: usize,
 }
 
-// The detector then, and the line's end.
-fn after(d: EwmaDetector, out: &mut [u8], at: usize) -> Kept {
-    let state = put_detector(out, at, d);
-    let end = put_byte(out, state, b'\n');
-    Kept {
-        detector: d,
-        made: true,
-        at: end,
+// The detector that was made, and else an idle one.
+fn kept_of(made: Made) -> Kept {
+    match made {
+        Made::Detector(d) => Kept {
+            detector: d,
+            made: true,
+            at: 0,
+        },
+        Made::Refused => Kept {
+            detector: EwmaDetector::idle(),
+            made: false,
+            at: 0,
+        },
     }
 }
 
+// The number of a refusal, 0 where there is none, and the detector then.
+fn answer(d: EwmaDetector, letter: u8, refusal: u64, out: &mut [u8], at: usize) -> usize {
+    let start = put_byte(out, at, letter);
+    let number = put_field(out, start, refusal, 1);
+    let state = put_detector(out, number, d);
+    put_byte(out, state, b'\n')
+}
+
 fn made_as(made: Made, letter: u8, out: &mut [u8], at: usize) -> Kept {
-    let to = put_byte(out, at, letter);
-    match made {
-        Made::Detector(d) => {
-            let ok = put_text(out, to, b" ok");
-            after(d, out, ok)
-        }
-        Made::Refused => {
-            let refused = put_refused(out, to, 7);
-            let end = put_byte(out, refused, b'\n');
-            Kept {
-                detector: EwmaDetector::idle(),
-                made: false,
-                at: end,
-            }
-        }
-    }
+    let mut k = kept_of(made);
+    let d = k.detector;
+    k.at = answer(d, letter, if k.made { 0 } else { 7 }, out, at);
+    k
 }
 
 // `a`: a detector with the usual freeze and warm-up.
@@ -81,38 +84,36 @@ fn with_options(s: &[u8], out: &mut [u8], at: usize) -> Kept {
     )
 }
 
-// The Rust's answer: no score for what was ignored and for the first sample, and 0 while warming.
-fn put_score(out: &mut [u8], at: usize, v: Verdict) -> usize {
+// The Rust's answer: whether there is a score, the score and its flag. There is none for what was ignored and for the first sample, and 0 while warming.
+fn score_words(v: Verdict) -> [u64; 3] {
     match v {
-        Verdict::Ignored => put_text(out, at, b" none"),
-        Verdict::First => put_text(out, at, b" none"),
-        Verdict::Warming => put_text(out, at, b" 00000000 0"),
-        Verdict::Scored(score) => {
-            let to = put_float(out, at, score.z_score);
-            put_flag(out, to, score.is_anomalous)
-        }
+        Verdict::Ignored => [0, 0, 0],
+        Verdict::First => [0, 0, 0],
+        Verdict::Warming => [1, 0, 0],
+        Verdict::Scored(s) => [1, bits_of_f32(s.z_score) as u64, s.is_anomalous as u64],
     }
 }
 
-fn put_case(out: &mut [u8], at: usize, v: Verdict) -> usize {
+fn case_number(v: Verdict) -> u64 {
     match v {
-        Verdict::Ignored => put_text(out, at, b"v ignored\n"),
-        Verdict::First => put_text(out, at, b"v first\n"),
-        Verdict::Warming => put_text(out, at, b"v warming\n"),
-        Verdict::Scored(_) => put_text(out, at, b"v scored\n"),
+        Verdict::Ignored => 0,
+        Verdict::First => 1,
+        Verdict::Warming => 2,
+        Verdict::Scored(_) => 3,
     }
 }
 
-// `u`: one sample.
-fn update(d: EwmaDetector, s: &[u8], out: &mut [u8], at: usize) -> Kept {
-    let value = number(s, 2);
-    let u = d.update(float(value.value));
+// What a sample was, and the detector then; on a line of its own the case.
+fn sampled(u: Updated, letter: u8, out: &mut [u8], at: usize) -> Kept {
     let next = u.detector;
     let verdict = u.verdict;
-    let letter = put_byte(out, at, b'u');
-    let to = put_score(out, letter, verdict);
-    let done = after(next, out, to);
-    let end = put_case(out, done.at, verdict);
+    let words = score_words(verdict);
+    let start = put_byte(out, at, letter);
+    let score = put_words(out, start, &words);
+    let state = put_detector(out, score, next);
+    let line = put_text(out, state, b"\nv");
+    let case = put_field(out, line, case_number(verdict), 1);
+    let end = put_byte(out, case, b'\n');
     Kept {
         detector: next,
         made: true,
@@ -120,33 +121,86 @@ fn update(d: EwmaDetector, s: &[u8], out: &mut [u8], at: usize) -> Kept {
     }
 }
 
+// `u`: one sample.
+fn update(d: EwmaDetector, s: &[u8], out: &mut [u8], at: usize) -> Kept {
+    let value = number(s, 2);
+    sampled(d.update(float(value.value)), b'u', out, at)
+}
+
+// One sample on a detector that is lent for it.
+fn lent(d: EwmaDetector, value: f32) -> Updated {
+    let mut kept = d;
+    let verdict = update_in_place(&mut kept, value);
+    Updated {
+        detector: kept,
+        verdict,
+    }
+}
+
+// `t`: one sample, in place.
+fn update_lent(d: EwmaDetector, s: &[u8], out: &mut [u8], at: usize) -> Kept {
+    let value = number(s, 2);
+    sampled(lent(d, float(value.value)), b't', out, at)
+}
+
+// `k`: what the detector tells of itself.
+fn told(d: EwmaDetector, out: &mut [u8], at: usize) -> Kept {
+    let words = [
+        bits_of_f32(d.mean()) as u64,
+        bits_of_f32(d.variance()) as u64,
+        d.count() as u64,
+    ];
+    let letter = put_byte(out, at, b'k');
+    let to = put_words(out, letter, &words);
+    let end = put_byte(out, to, b'\n');
+    Kept {
+        detector: d,
+        made: true,
+        at: end,
+    }
+}
+
+// The detector with another freeze duration, or as it was where that is refused.
+fn reset_of(d: EwmaDetector, duration: u32) -> Kept {
+    match d.set_freeze_duration(duration) {
+        Reset::Detector(next) => Kept {
+            detector: next,
+            made: true,
+            at: 0,
+        },
+        Reset::Refused => Kept {
+            detector: d,
+            made: false,
+            at: 0,
+        },
+    }
+}
+
 // `z`: another freeze duration.
 fn set_freeze_duration(d: EwmaDetector, s: &[u8], out: &mut [u8], at: usize) -> Kept {
     let duration = number(s, 2);
-    let to = put_byte(out, at, b'z');
-    match d.set_freeze_duration(low32(duration.value)) {
-        Reset::Detector(next) => {
-            let ok = put_text(out, to, b" ok");
-            after(next, out, ok)
-        }
-        Reset::Refused => {
-            let refused = put_refused(out, to, 8);
-            after(d, out, refused)
-        }
-    }
+    let mut k = reset_of(d, low32(duration.value));
+    let next = k.detector;
+    k.at = answer(next, b'z', if k.made { 0 } else { 8 }, out, at);
+    k.made = true;
+    k
 }
 
 // `c`: a new baseline.
 fn recalibrate(d: EwmaDetector, s: &[u8], out: &mut [u8], at: usize) -> Kept {
     let baseline = number(s, 2);
-    let to = put_text(out, at, b"c ok");
     let next = d.recalibrate(float(baseline.value));
-    after(next, out, to)
+    let end = answer(next, b'c', 0, out, at);
+    Kept {
+        detector: next,
+        made: true,
+        at: end,
+    }
 }
 
 pub fn is_call(letter: u8) -> bool {
     match letter {
-        b'a' | b'o' | b'u' | b'z' | b'c' => true,
+        b'a' | b'o' | b'u' | b't' | b'k' | b'z' | b'c' => true,
         _ => false,
     }
 }
@@ -154,6 +208,8 @@ pub fn is_call(letter: u8) -> bool {
 fn on_made(d: EwmaDetector, letter: u8, s: &[u8], out: &mut [u8], at: usize) -> Kept {
     match letter {
         b'u' => update(d, s, out, at),
+        b't' => update_lent(d, s, out, at),
+        b'k' => told(d, out, at),
         b'z' => set_freeze_duration(d, s, out, at),
         _ => recalibrate(d, s, out, at),
     }

@@ -9,8 +9,7 @@ use crate::show::put_byte;
 use crate::show::put_definition;
 use crate::show::put_detector;
 use crate::show::put_field;
-use crate::show::put_refused;
-use crate::show::put_text;
+use crate::show::put_words;
 use conversion::SignalDefinition;
 use detector::EwmaDetector;
 use table::Answer;
@@ -25,22 +24,21 @@ pub struct Told {
     pub at: usize,
 }
 
-fn put_answer(out: &mut [u8], at: usize, answer: Answer) -> usize {
+// What a call answered: case 0 is a slot, 1 success, 2 a refusal; and its number, 0 where it has none.
+fn answer_words(answer: Answer) -> [u64; 2] {
     match answer {
-        Answer::Slot(slot) => {
-            let to = put_text(out, at, b" slot");
-            put_field(out, to, slot as u64, 4)
-        }
-        Answer::Done => put_text(out, at, b" ok"),
-        Answer::Refused(number) => put_refused(out, at, number),
+        Answer::Slot(slot) => [0, slot as u64],
+        Answer::Done => [1, 0],
+        Answer::Refused(number) => [2, number as u64],
     }
 }
 
 fn told_as(done: Defined, letter: u8, out: &mut [u8], at: usize) -> Told {
     let engine = done.engine;
     let answer = done.answer;
+    let words = answer_words(answer);
     let to = put_byte(out, at, letter);
-    let told = put_answer(out, to, answer);
+    let told = put_words(out, to, &words);
     let end = put_byte(out, told, b'\n');
     Told {
         engine,
@@ -142,7 +140,7 @@ fn passes(e: SignalIdsEngine, s: &[u8], out: &mut [u8], at: usize) -> Told {
         left -= 1;
     }
     let to = put_byte(out, at, b'y');
-    let slot = put_field(out, to, engine.next_slot() as u64, 4);
+    let slot = put_field(out, to, engine.next_slot() as u64, 8);
     let end = put_byte(out, slot, b'\n');
     Told {
         engine,
@@ -155,7 +153,7 @@ fn passes(e: SignalIdsEngine, s: &[u8], out: &mut [u8], at: usize) -> Told {
 fn put_row(out: &mut [u8], at: usize, signal: Signal, detector: EwmaDetector) -> usize {
     let def = signal.definition;
     let letter = put_byte(out, at, b's');
-    let slot = put_field(out, letter, signal.slot as u64, 4);
+    let slot = put_field(out, letter, signal.slot as u64, 8);
     let to = put_definition(out, slot, def);
     let end = put_detector(out, to, detector);
     put_byte(out, end, b'\n')
@@ -163,10 +161,10 @@ fn put_row(out: &mut [u8], at: usize, signal: Signal, detector: EwmaDetector) ->
 
 // The count and the next slot.
 fn put_counts(out: &mut [u8], at: usize, n: usize, next: u16) -> usize {
+    let words = [n as u64, next as u64];
     let letter = put_byte(out, at, b's');
-    let count = put_field(out, letter, n as u64, 2);
-    let slot = put_field(out, count, next as u64, 4);
-    put_byte(out, slot, b'\n')
+    let to = put_words(out, letter, &words);
+    put_byte(out, to, b'\n')
 }
 
 // `s`: the whole table.

@@ -6,9 +6,9 @@ use crate::script::low32;
 use crate::script::number;
 use crate::show::put_byte;
 use crate::show::put_field;
-use crate::show::put_flag;
-use crate::show::put_float;
 use crate::show::put_text;
+use crate::show::put_words;
+use conversion::bits_of_f32;
 use frames::CanFrame;
 use frames::Outcome;
 use frames::Processed;
@@ -19,10 +19,17 @@ use frames::process_frame;
 use frames::process_raw_frame;
 use table::SignalIdsEngine;
 
+fn anomaly_words(a: SignalAnomaly) -> [u64; 3] {
+    [
+        a.slot as u64,
+        bits_of_f32(a.z_score) as u64,
+        bits_of_f32(a.physical_value) as u64,
+    ]
+}
+
 fn put_anomaly(out: &mut [u8], at: usize, a: SignalAnomaly) -> usize {
-    let slot = put_field(out, at, a.slot as u64, 4);
-    let score = put_float(out, slot, a.z_score);
-    put_float(out, score, a.physical_value)
+    let words = anomaly_words(a);
+    put_words(out, at, &words)
 }
 
 // The count, and all eight places.
@@ -37,33 +44,27 @@ fn put_anomalies(out: &mut [u8], at: usize, r: SignalIdsResult) -> usize {
     to
 }
 
-fn put_scored(out: &mut [u8], at: usize, value: f32, score: f32, flag: bool) -> usize {
-    let case = put_text(out, at, b" scored");
-    let v = put_float(out, case, value);
-    let z = put_float(out, v, score);
-    put_flag(out, z, flag)
-}
-
-fn put_outcome(out: &mut [u8], at: usize, o: Outcome) -> usize {
+// An outcome's case, value, score and flag, 0 where it has none.
+fn outcome_words(slot: u64, o: Outcome) -> [u64; 5] {
     match o {
-        Outcome::PassedOver => put_text(out, at, b" over"),
-        Outcome::NoValue => put_text(out, at, b" none"),
-        Outcome::First(v) => {
-            let case = put_text(out, at, b" first");
-            put_float(out, case, v)
-        }
-        Outcome::Warming(v) => {
-            let case = put_text(out, at, b" warming");
-            put_float(out, case, v)
-        }
-        Outcome::Scored(v, z, flag) => put_scored(out, at, v, z, flag),
+        Outcome::PassedOver => [slot, 0, 0, 0, 0],
+        Outcome::NoValue => [slot, 1, 0, 0, 0],
+        Outcome::First(v) => [slot, 2, bits_of_f32(v) as u64, 0, 0],
+        Outcome::Warming(v) => [slot, 3, bits_of_f32(v) as u64, 0, 0],
+        Outcome::Scored(v, z, flag) => [
+            slot,
+            4,
+            bits_of_f32(v) as u64,
+            bits_of_f32(z) as u64,
+            flag as u64,
+        ],
     }
 }
 
 fn put_report(out: &mut [u8], at: usize, r: Report) -> usize {
     let outcome = r.outcome;
-    let slot = put_field(out, at, r.slot as u64, 4);
-    put_outcome(out, slot, outcome)
+    let words = outcome_words(r.slot as u64, outcome);
+    put_words(out, at, &words)
 }
 
 // On a line of their own, the outcomes of the definitions that apply.

@@ -5,6 +5,7 @@ mod detecting;
 mod engine;
 mod framing;
 mod plain;
+mod rendering;
 mod script;
 mod show;
 

@@ -1,4 +1,5 @@
-// Calls that keep no state: extraction, the writer, conversion and the square root.
+// Calls that keep no state: extraction, the writer, conversion, the square root and the lines of the log.
+use crate::rendering::line;
 use crate::script::bytes;
 use crate::script::definition;
 use crate::script::float;
@@ -133,6 +134,7 @@ pub fn answered(letter: u8, s: &[u8], data: &mut [u8], out: &mut [u8], at: usize
         b'n' => unsigned(s, out, at),
         b'i' => signed(s, out, at),
         b'q' => root(s, out, at),
+        b'l' => line(s, data, out, at),
         _ => at,
     }
 }

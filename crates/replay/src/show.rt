@@ -32,7 +32,7 @@ fn glyph(d: u8) -> u8
 }
 
 // The low `digits` hexadecimal digits of a number.
-pub fn put_hex(out: &mut [u8], at: usize, n: u64, digits: usize) -> usize
+pub(crate) fn put_hex(out: &mut [u8], at: usize, n: u64, digits: usize) -> usize
     requires { ⌜ digits ≤ 16 ⌝ }
 {
     let mut to = at;
@@ -45,27 +45,27 @@ pub fn put_hex(out: &mut [u8], at: usize, n: u64, digits: usize) -> usize
 }
 
 // A blank, and the digits.
-pub fn put_field(out: &mut [u8], at: usize, n: u64, digits: usize) -> usize
+pub(crate) fn put_field(out: &mut [u8], at: usize, n: u64, digits: usize) -> usize
     requires { ⌜ digits ≤ 16 ⌝ }
 {
     let to = put_byte(out, at, b' ');
     put_hex(out, to, n, digits)
 }
 
-// A blank, and 0 or 1.
-pub fn put_flag(out: &mut [u8], at: usize, flag: bool) -> usize {
-    if flag {
-        return put_field(out, at, 1, 1);
-    }
-    put_field(out, at, 0, 1)
+// A blank, and a float by its bits, those of one NaN for all.
+pub fn put_float(out: &mut [u8], at: usize, x: f32) -> usize {
+    put_field(out, at, bits_of_f32(x) as u64, 8)
 }
 
-// A blank, and a float by its bits, every NaN as one word.
-pub fn put_float(out: &mut [u8], at: usize, x: f32) -> usize {
-    if x != x {
-        return put_text(out, at, b" nan");
+// A blank and eight digits for each number.
+pub fn put_words(out: &mut [u8], at: usize, words: &[u64]) -> usize {
+    let mut to = at;
+    let mut i = 0;
+    while i < words.len() {
+        to = put_field(out, to, words[i], 8);
+        i += 1;
     }
-    put_field(out, at, bits_of_f32(x) as u64, 8)
+    to
 }
 
 pub fn put_refused(out: &mut [u8], at: usize, number: u8) -> usize {
@@ -98,24 +98,24 @@ pub fn put_bytes(out: &mut [u8], at: usize, bytes: &[u8]) -> usize {
     to
 }
 
-fn put_floats(out: &mut [u8], at: usize, d: EwmaDetector) -> usize {
-    let mean = put_float(out, at, d.mean);
-    let variance = put_float(out, mean, d.variance);
-    let alpha = put_float(out, variance, d.alpha);
-    put_float(out, alpha, d.z_threshold)
+fn detector_words(d: EwmaDetector) -> [u64; 9] {
+    [
+        bits_of_f32(d.mean) as u64,
+        bits_of_f32(d.variance) as u64,
+        bits_of_f32(d.alpha) as u64,
+        bits_of_f32(d.z_threshold) as u64,
+        d.count as u64,
+        d.frozen as u64,
+        d.freeze_remaining as u64,
+        d.freeze_duration as u64,
+        d.warmup_count as u64,
+    ]
 }
 
-fn put_counts(out: &mut [u8], at: usize, d: EwmaDetector) -> usize {
-    let count = put_field(out, at, d.count as u64, 8);
-    let frozen = put_field(out, count, d.frozen as u64, 8);
-    let left = put_field(out, frozen, d.freeze_remaining as u64, 8);
-    let duration = put_field(out, left, d.freeze_duration as u64, 8);
-    put_field(out, duration, d.warmup_count as u64, 8)
-}
-
+// Every field of a detector.
 pub fn put_detector(out: &mut [u8], at: usize, d: EwmaDetector) -> usize {
-    let floats = put_floats(out, at, d);
-    put_counts(out, floats, d)
+    let words = detector_words(d);
+    put_words(out, at, &words)
 }
 
 fn order_number(order: ByteOrder) -> u64 {
@@ -132,23 +132,26 @@ fn condition_number(c: Condition) -> u64 {
     }
 }
 
-// The frames of a definition and the place of its bits there.
-fn put_place(out: &mut [u8], at: usize, d: SignalDefinition) -> usize {
+fn definition_words(d: SignalDefinition) -> [u64; 11] {
     let order = d.byte_order;
-    let can_id = put_field(out, at, d.can_id as u64, 8);
-    let extended = put_flag(out, can_id, d.is_extended);
-    let start = put_field(out, extended, d.start_bit as u64, 4);
-    let length = put_field(out, start, d.bit_length as u64, 2);
-    put_field(out, length, order_number(order), 1)
+    let only = d.condition;
+    [
+        d.can_id as u64,
+        d.is_extended as u64,
+        d.start_bit as u64,
+        d.bit_length as u64,
+        order_number(order),
+        bits_of_f32(d.scale) as u64,
+        bits_of_f32(d.offset) as u64,
+        d.name_hash as u64,
+        d.signed as u64,
+        d.is_multiplexor as u64,
+        condition_number(only),
+    ]
 }
 
+// Every field of a definition.
 pub fn put_definition(out: &mut [u8], at: usize, d: SignalDefinition) -> usize {
-    let only = d.condition;
-    let place = put_place(out, at, d);
-    let scale = put_float(out, place, d.scale);
-    let offset = put_float(out, scale, d.offset);
-    let name_hash = put_field(out, offset, d.name_hash as u64, 8);
-    let signed = put_flag(out, name_hash, d.signed);
-    let multiplexor = put_flag(out, signed, d.is_multiplexor);
-    put_field(out, multiplexor, condition_number(only), 5)
+    let words = definition_words(d);
+    put_words(out, at, &words)
 }

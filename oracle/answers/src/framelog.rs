@@ -1,6 +1,6 @@
 //! The log of document 01 over the unchanged Rust.
 
-use crate::{bits, refusal};
+use crate::{float, refusal};
 use std::io::{Read, Write};
 use vs_can_monitor::CanFrame;
 use vs_signal_ids::{ByteOrder, SignalDefinition, SignalIdsEngine};
@@ -28,6 +28,26 @@ fn u32_at(b: &[u8], i: usize) -> u32 {
 
 fn f32_at(b: &[u8], i: usize) -> f32 {
     f32::from_bits(u32_at(b, i))
+}
+
+/// The line of a table call, whose letter is D or R: what it answered, or the number of its refusal.
+pub fn answer_line(out: &mut impl Write, letter: char, n: u32, answer: Result<Option<u16>, u8>) {
+    match answer {
+        Ok(Some(slot)) => writeln!(out, "{letter} {n} slot {slot}"),
+        Ok(None) => writeln!(out, "{letter} {n} ok"),
+        Err(number) => writeln!(out, "{letter} {n} refused {number}"),
+    }
+    .expect("write");
+}
+
+/// The line of an anomaly.
+pub fn anomaly_line(out: &mut impl Write, n: u32, slot: u16, z_score: f32, value: f32) {
+    writeln!(out, "F {n} slot {slot} z {} value {}", float(z_score), float(value)).expect("write");
+}
+
+/// The end line.
+pub fn end_line(out: &mut impl Write, n: u32, number: u32) {
+    writeln!(out, "end {n} {number}").expect("write");
 }
 
 impl<R: Read, W: Write> Log<R, W> {
@@ -71,22 +91,14 @@ impl<R: Read, W: Write> Log<R, W> {
             is_multiplexor: flags & 8 != 0,
             multiplexor_value: if flags & 16 != 0 { Some(condition) } else { None },
         };
-        let n = self.sound + 1;
-        match self.engine.as_mut().expect("settings came first").define_signal(definition) {
-            Ok(slot) => writeln!(self.out, "D {n} slot {slot}"),
-            Err(e) => writeln!(self.out, "D {n} refused {}", refusal(e)),
-        }
-        .expect("write");
+        let answer = self.engine.as_mut().expect("settings came first").define_signal(definition);
+        answer_line(&mut self.out, 'D', self.sound + 1, answer.map(|slot| Some(slot as u16)).map_err(refusal));
         Next::Record
     }
 
     fn remove(&mut self, b: &[u8]) -> Next {
-        let n = self.sound + 1;
-        match self.engine.as_mut().expect("settings came first").remove_signal(u16_at(b, 0)) {
-            Ok(()) => writeln!(self.out, "R {n} ok"),
-            Err(e) => writeln!(self.out, "R {n} refused {}", refusal(e)),
-        }
-        .expect("write");
+        let answer = self.engine.as_mut().expect("settings came first").remove_signal(u16_at(b, 0));
+        answer_line(&mut self.out, 'R', self.sound + 1, answer.map(|()| None).map_err(refusal));
         Next::Record
     }
 
@@ -101,15 +113,7 @@ impl<R: Read, W: Write> Log<R, W> {
         frame.data.copy_from_slice(&b[6..14]);
         let result = self.engine.as_mut().expect("settings came first").process_frame(&frame);
         for a in &result.anomalies[..result.anomaly_count as usize] {
-            writeln!(
-                self.out,
-                "F {} slot {} z {} value {}",
-                self.sound + 1,
-                a.signal_index,
-                bits(a.z_score),
-                bits(a.physical_value)
-            )
-            .expect("write");
+            anomaly_line(&mut self.out, self.sound + 1, a.signal_index, a.z_score, a.physical_value);
         }
         Next::Record
     }
@@ -154,7 +158,7 @@ impl<R: Read, W: Write> Log<R, W> {
             match self.record() {
                 Next::Record => self.sound += 1,
                 Next::Stop(number) => {
-                    writeln!(self.out, "end {} {number}", self.sound).expect("write");
+                    end_line(&mut self.out, self.sound, number);
                     return;
                 }
             }

@@ -243,7 +243,7 @@ pub fn every_setting(out: &mut String, step: usize) {
     }
     for (i, x) in FLOATS.into_iter().enumerate() {
         for y in FLOATS.into_iter().skip(i % step).step_by(step) {
-            let _ = writeln!(out, "o 3E800000 40400000 2 1\nu {x:X}\nu {y:X}\nu {x:X}\nc {y:X}\nu {x:X}\nu 0");
+            let _ = writeln!(out, "o 3E800000 40400000 2 1\nu {x:X}\nt {y:X}\nk\nu {x:X}\nc {y:X}\nt {x:X}\nk\nu 0");
         }
     }
 }
@@ -269,6 +269,7 @@ pub fn detectors(out: &mut String, d: &mut Dice, calls: usize) {
                 0 => writeln!(out, "z {:X}", d.of(&[0, 1, 2, 10, 0xFFFF_FFFF])),
                 1 => writeln!(out, "c {:X}", any_float(d)),
                 2 => writeln!(out, "u {:X}", any_float(d)),
+                3 | 4 => writeln!(out, "k"),
                 _ => {
                     let x = match style {
                         0 => base,
@@ -278,11 +279,35 @@ pub fn detectors(out: &mut String, d: &mut Dice, calls: usize) {
                         4 => d.of(&[0x7F7F_FFFF, 0xFF7F_FFFF, 0, 0x8000_0000]),
                         _ => d.of(&[0x41A0_0000, 0x41A0_0000, 0x41A8_0000, 0x447A_0000]),
                     };
-                    writeln!(out, "u {x:X}")
+                    writeln!(out, "{} {x:X}", if d.one_in(3) { "t" } else { "u" })
                 }
             };
         }
         left -= steps as i64;
+    }
+}
+
+/// Lines of the log, of every kind and with every number of digits, into buffers of every size up to some past a line's.
+pub fn lines(out: &mut String, d: &mut Dice, calls: usize) {
+    let mut line = |d: &mut Dice, size: usize| {
+        let any = d.next() >> 32 >> d.below(32);
+        let record = d.of(&[0, 1, 9, 10, 99, 100, 999_999_999, 1_000_000_000, 0xFFFF_FFFF, any]);
+        let (kind, number) = (d.below(4), d.of(&[0, 1, 9, 10, 99, 100, 255, 9_999, 10_000, 65_534, 65_535]));
+        let (x, y, z) = match kind {
+            2 => (number, any_float(d), any_float(d)),
+            3 => (number % 256, 0, 0),
+            _ => (d.below(3), number, 0),
+        };
+        let _ = writeln!(out, "l {kind:X} {record:X} {x:X} {y:X} {z:X} {}", hex(&d.bytes(size)));
+    };
+    for size in 0..=64 {
+        for _ in 0..4 {
+            line(d, size);
+        }
+    }
+    for _ in 0..calls {
+        let size = if d.one_in(4) { d.below(200) } else { 55 + d.below(4) };
+        line(d, size as usize);
     }
 }
 
@@ -402,16 +427,17 @@ pub fn crowds(out: &mut String, d: &mut Dice) {
     }
 }
 
-/// The marked run: at next slot 65,534 a batch of two gets 65,534 and 65,535, and define is then refused.
-pub fn last_slots(out: &mut String) {
+/// The marked run: at next slot 65,534 a batch of two gets 65,534 and 65,535, and define is then refused; a batch of three is refused there. Two more, where
+/// all are asked for: a batch of three at 65,533, and one of one at 65,534.
+pub fn last_slots(out: &mut String, all: bool) {
     let def = "100 0 0 8 0 3F800000 0 0 0 0 0";
-    for (passes, batch) in [(65534u64, 2u64), (65534, 1), (65533, 3), (65534, 3), (65535, 1), (65535, 0), (65533, 1)] {
+    let runs = [(65533, &[1, 3, 2][..]), (65533, &[3]), (65534, &[1])];
+    for (passes, batches) in runs.into_iter().take(if all { 3 } else { 1 }) {
         let _ = writeln!(out, "e 3F000000 40400000\ny {passes:X}");
-        let _ = write!(out, "b {batch:X}");
-        for _ in 0..batch {
-            let _ = write!(out, " {def}");
+        for n in batches {
+            let _ = writeln!(out, "b {n}{}\ns", format!(" {def}").repeat(*n));
         }
-        let _ = writeln!(out, "\ns\nd {def}\nb 0\nb 1 {def}\ns\nm FFFE\nm FFFF\ns");
+        let _ = writeln!(out, "d {def}\nb 0\nb 1 {def}\ny 1\ns\nm FFFD\nm FFFE\nm FFFF\ns\nd {def}");
     }
 }
 

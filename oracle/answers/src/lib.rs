@@ -2,6 +2,7 @@
 
 pub mod framelog;
 pub mod generate;
+pub mod host;
 pub mod model;
 pub mod unchanged;
 
@@ -70,13 +71,10 @@ impl<'a> Fields<'a> {
     }
 }
 
-/// A float by its bits, every NaN as one word.
+/// The eight digits of a float's bits, those of one NaN for all.
 pub fn float(x: f32) -> String {
-    if x.is_nan() {
-        "nan".to_string()
-    } else {
-        format!("{:08X}", x.to_bits())
-    }
+    let bits = if x.is_nan() { 0x7FC0_0000 } else { x.to_bits() };
+    format!("{bits:08X}")
 }
 
 /// Bytes, `-` where there are none.
@@ -111,7 +109,7 @@ pub fn detector(d: &EwmaDetector) -> String {
 /// Every field of a definition.
 pub fn definition(d: &SignalDefinition) -> String {
     format!(
-        " {:08X} {} {:04X} {:02X} {} {} {} {:08X} {} {} {:05X}",
+        " {:08X} {:08X} {:08X} {:08X} {:08X} {} {} {:08X} {:08X} {:08X} {:08X}",
         d.can_id,
         d.is_extended as u8,
         d.start_bit,
@@ -124,12 +122,6 @@ pub fn definition(d: &SignalDefinition) -> String {
         d.is_multiplexor as u8,
         d.multiplexor_value.map_or(0, |n| 0x10000 + n as u32),
     )
-}
-
-/// The eight digits of a float's bits, every NaN as the one that the log prints.
-pub fn bits(x: f32) -> String {
-    let bits = if x.is_nan() { 0x7FC0_0000 } else { x.to_bits() };
-    format!("{bits:08X}")
 }
 
 /// Both machines on one script: the Rust's answers, and the model's on lines of their own.

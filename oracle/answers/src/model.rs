@@ -1,7 +1,8 @@
-//! A plain model, written from document 01, of what the Rust has no counterpart for: the writer, the case of a detector's answer, and
-//! the outcome of each definition that applies to a frame. Single extractions and detector steps are the Rust's.
+//! A plain model, written from document 01, of what the Rust has no counterpart for: the writer, the case of a detector's answer, the
+//! outcome of each definition that applies to a frame, and a line of the log. Single extractions and detector steps are the Rust's, and the text of a
+//! line is that of the log program over the Rust.
 
-use crate::{bytes, float, Fields};
+use crate::{bytes, float, framelog, Fields};
 use vs_anomaly::{look, EwmaDetector};
 use vs_signal_ids::{extract_signal, extract_signal_raw, ByteOrder, SignalDefinition};
 
@@ -45,17 +46,40 @@ fn written(f: &mut Fields) -> String {
     format!("w {number} {}", bytes(&data))
 }
 
-/// What a sample will be to a detector.
-fn case(d: &EwmaDetector, value: f32) -> &'static str {
+/// A line of the log into a buffer, which has to have 55 bytes.
+fn rendered(f: &mut Fields) -> String {
+    let (kind, n, x, y, z) = (f.number(), f.number() as u32, f.number(), f.number(), f.number());
+    let mut data = f.bytes();
+    let answer = match x {
+        0 => Ok(Some(y as u16)),
+        1 => Ok(None),
+        _ => Err(y as u8),
+    };
+    let mut line = Vec::new();
+    match kind {
+        0 => framelog::answer_line(&mut line, 'D', n, answer),
+        1 => framelog::answer_line(&mut line, 'R', n, answer),
+        2 => framelog::anomaly_line(&mut line, n, x as u16, f32::from_bits(y as u32), f32::from_bits(z as u32)),
+        _ => framelog::end_line(&mut line, n, (x as u8).into()),
+    }
+    if data.len() < 55 {
+        return format!("l none {}", bytes(&data));
+    }
+    data[..line.len()].copy_from_slice(&line);
+    format!("l {:02X} {}", line.len(), bytes(&data))
+}
+
+/// What a sample will be to a detector: 0 ignored, 1 the first, 2 warming, 3 scored.
+fn case(d: &EwmaDetector, value: f32) -> u8 {
     let [count, _, _, _, warmup] = look::numbers(d);
     if !value.is_finite() {
-        "ignored"
+        0
     } else if count == 0 {
-        "first"
+        1
     } else if count < warmup {
-        "warming"
+        2
     } else {
-        "scored"
+        3
     }
 }
 
@@ -127,22 +151,18 @@ impl Engine {
         let mut text = String::new();
         for r in self.rows.iter_mut().filter(|r| applies(&r.definition)) {
             count += 1;
-            text += &format!(" {:04X}", r.slot);
-            if r.definition.multiplexor_value.is_some_and(|n| mux != Some(n as u64)) {
-                text += " over";
-                continue;
-            }
-            let Some(value) = extract_signal(data, data_len, &r.definition) else {
-                text += " none";
-                continue;
+            // case 0 is passed over, 1 no value, and then a detector's but for what it ignores
+            let outcome = if r.definition.multiplexor_value.is_some_and(|n| mux != Some(n as u64)) {
+                (0, 0.0, 0.0, false)
+            } else if let Some(value) = extract_signal(data, data_len, &r.definition) {
+                let case = case(&r.detector, value);
+                let score = r.detector.update(value).filter(|_| case == 3);
+                (case + 1, value, score.map_or(0.0, |s| s.z_score), score.is_some_and(|s| s.is_anomalous))
+            } else {
+                (1, 0.0, 0.0, false)
             };
-            let case = case(&r.detector, value);
-            let score = r.detector.update(value);
-            text += &format!(" {case} {}", float(value));
-            if case == "scored" {
-                let score = score.expect("a score");
-                text += &format!(" {} {}", float(score.z_score), score.is_anomalous as u8);
-            }
+            let (case, value, score, flag) = outcome;
+            text += &format!(" {:08X} {case:08X} {} {} {:08X}", r.slot, float(value), float(score), flag as u8);
         }
         format!("p {count:02X}{text}")
     }
@@ -160,9 +180,10 @@ impl Machine {
     pub fn answer(&mut self, letter: &str, f: &mut Fields) -> Option<String> {
         match letter {
             "w" => return Some(written(f)),
+            "l" => return Some(rendered(f)),
             "a" => self.detector = EwmaDetector::new(f.float(), f.float()),
             "o" => self.detector = EwmaDetector::with_options(f.float(), f.float(), f.number() as u32, f.number() as u32),
-            "u" => {
+            "u" | "t" => {
                 let d = self.detector.as_mut()?;
                 let value = f.float();
                 let text = format!("v {}", case(d, value));

@@ -12,16 +12,24 @@ fn raw_text(raw: Option<u64>) -> String {
 fn listed(letter: &str, r: &SignalIdsResult) -> String {
     let mut text = format!("{letter} {:02X}", r.anomaly_count);
     for a in &r.anomalies {
-        text += &format!(" {:04X} {} {}", a.signal_index, float(a.z_score), float(a.physical_value));
+        text += &format!(" {:08X} {} {}", a.signal_index, float(a.z_score), float(a.physical_value));
     }
     text
 }
 
-fn status<T>(letter: &str, r: Result<T, vs_types::VsError>) -> String {
-    match r {
-        Ok(_) => format!("{letter} ok"),
-        Err(e) => format!("{letter} refused {}", refusal(e)),
-    }
+/// What a table call answered: case 0 is a slot, 1 success, 2 a refusal; and its number, 0 where it has none.
+fn told(letter: &str, answer: Result<Option<usize>, vs_types::VsError>) -> String {
+    let (case, number) = match answer {
+        Ok(Some(slot)) => (0, slot),
+        Ok(None) => (1, 0),
+        Err(e) => (2, refusal(e) as usize),
+    };
+    format!("{letter} {case:08X} {number:08X}")
+}
+
+/// A detector's fields, all 0 where there is none.
+fn state(d: &Option<EwmaDetector>) -> String {
+    d.as_ref().map_or(" 00000000".repeat(9), detector)
 }
 
 /// The detector and the engine that a script acts on.
@@ -34,23 +42,23 @@ pub struct Machine {
 impl Machine {
     fn made(&mut self, letter: &str, d: Option<EwmaDetector>) -> String {
         self.detector = d;
-        match d {
-            Some(d) => format!("{letter} ok{}", detector(&d)),
-            None => format!("{letter} refused 7"),
-        }
+        format!("{letter} {}{}", if d.is_some() { 0 } else { 7 }, state(&d))
     }
 
     fn on_detector(&mut self, letter: &str, f: &mut Fields) -> Option<String> {
         let d = self.detector.as_mut()?;
+        if letter == "k" {
+            return Some(format!("k {} {} {:08X}", float(d.mean()), float(d.variance()), d.count()));
+        }
         let answer = match letter {
-            "u" => match d.update(f.float()) {
-                Some(s) => format!("{} {}", float(s.z_score), s.is_anomalous as u8),
-                None => "none".to_string(),
+            "u" | "t" => match d.update(f.float()) {
+                Some(s) => format!("00000001 {} {:08X}", float(s.z_score), s.is_anomalous as u8),
+                None => "00000000 00000000 00000000".to_string(),
             },
-            "z" => d.set_freeze_duration(f.number() as u32).map_or("refused 8".to_string(), |_| "ok".to_string()),
+            "z" => d.set_freeze_duration(f.number() as u32).map_or("8".to_string(), |_| "0".to_string()),
             _ => {
                 d.recalibrate(f.float());
-                "ok".to_string()
+                "0".to_string()
             }
         };
         Some(format!("{letter} {answer}{}", detector(d)))
@@ -59,23 +67,20 @@ impl Machine {
     fn on_engine(&mut self, letter: &str, f: &mut Fields) -> Option<String> {
         let e = self.engine.as_mut()?;
         Some(match letter {
-            "d" => match e.define_signal(f.definition()) {
-                Ok(slot) => format!("d slot {slot:04X}"),
-                Err(k) => format!("d refused {}", refusal(k)),
-            },
+            "d" => told("d", e.define_signal(f.definition()).map(Some)),
             "b" => {
                 let n = f.number();
                 let defs: Vec<SignalDefinition> = (0..n).map(|_| f.definition()).collect();
-                status("b", e.define_signals_batch(&defs))
+                told("b", e.define_signals_batch(&defs).map(|_| None))
             }
-            "m" => status("m", e.remove_signal(f.number() as u16)),
+            "m" => told("m", e.remove_signal(f.number() as u16).map(|_| None)),
             "y" => {
                 for _ in 0..f.number() {
                     if let Ok(slot) = e.define_signal(SignalDefinition::default()) {
                         let _ = e.remove_signal(slot as u16);
                     }
                 }
-                format!("y {:04X}", e.next_slot())
+                format!("y {:08X}", e.next_slot())
             }
             "f" => {
                 let (id, extended, length, data) = (f.number() as u32, f.number() != 0, f.number() as u8, f.bytes());
@@ -88,10 +93,10 @@ impl Machine {
                 listed("g", &e.process_raw_frame(id, &data, n))
             }
             _ => {
-                let mut text = format!("s {:02X} {:04X}", e.signal_count(), e.next_slot());
+                let mut text = format!("s {:08X} {:08X}", e.signal_count(), e.next_slot());
                 for i in 0..e.signal_count() {
                     let (slot, def, det) = look::row(e, i);
-                    text += &format!("\ns {slot:04X}{}{}", definition(&def), detector(&det));
+                    text += &format!("\ns {slot:08X}{}{}", definition(&def), detector(&det));
                 }
                 text
             }
@@ -124,14 +129,11 @@ impl Machine {
             }
             "e" => {
                 let made = SignalIdsEngine::new(f.float(), f.float());
-                let text = match &made {
-                    Ok(_) => "e ok".to_string(),
-                    Err(k) => format!("e refused {}", refusal(*k)),
-                };
+                let text = told("e", made.as_ref().map(|_| None).map_err(|k| *k));
                 self.engine = made.ok();
                 Some(text)
             }
-            "u" | "z" | "c" => self.on_detector(letter, f),
+            "u" | "t" | "k" | "z" | "c" => self.on_detector(letter, f),
             "d" | "b" | "m" | "y" | "f" | "g" | "s" => self.on_engine(letter, f),
             _ => None,
         }

@@ -7,6 +7,9 @@ use std::path::{Path, PathBuf};
 use std::process::{exit, Command, Stdio};
 use std::time::{Duration, Instant};
 
+/// What a run is asked for. `at_least` is how many calls, logs and keys alone it has to have compared at its end; `emulator` are the words
+/// before a program, where the machine can't run one by itself.
+#[derive(Default)]
 struct Asked {
     seconds: Option<u64>,
     cases: Option<u64>,
@@ -14,37 +17,51 @@ struct Asked {
     every: usize,
     pack: Option<PathBuf>,
     seed: u64,
+    at_least: [u64; 3],
+    emulator: Vec<String>,
 }
 
-fn asked() -> Asked {
-    let mut a = Asked { seconds: None, cases: None, logs: None, every: 1, pack: None, seed: 1 };
-    let words: Vec<String> = std::env::args().skip(1).collect();
-    for pair in words.chunks(2) {
-        let n = pair.get(1).and_then(|n| n.parse().ok());
-        match (pair[0].as_str(), n) {
-            ("--seconds", Some(n)) => a.seconds = Some(n),
-            ("--cases", Some(n)) => a.cases = Some(n),
-            ("--logs", Some(n)) => a.logs = Some(n),
-            ("--every", Some(n)) if n > 0 => a.every = n as usize,
-            ("--seed", Some(n)) => a.seed = n,
-            ("--pack", _) if pair.len() == 2 => a.pack = Some(PathBuf::from(&pair[1])),
-            _ => {
-                eprintln!("usage: compare [--seconds N] [--cases N] [--logs N [--every N] [--pack FILE]] [--seed N]");
-                exit(2);
-            }
+const USAGE: &str = "usage: compare [--seconds N] [--cases N] [--logs N [--every N] [--pack FILE]] [--seed N] [--at-least CALLS LOGS KEYS] [--emulator WORDS]";
+
+fn asked(words: &[String]) -> Option<Asked> {
+    let mut a = Asked { every: 1, seed: 1, ..Default::default() };
+    let mut words = words.iter();
+    while let Some(word) = words.next() {
+        let mut number = || words.next()?.parse::<u64>().ok();
+        match word.as_str() {
+            "--seconds" => a.seconds = Some(number()?),
+            "--cases" => a.cases = Some(number()?),
+            "--logs" => a.logs = Some(number()?),
+            "--every" => a.every = number().filter(|n| *n > 0)? as usize,
+            "--seed" => a.seed = number()?,
+            "--at-least" => a.at_least = [number()?, number()?, number()?],
+            "--pack" => a.pack = Some(PathBuf::from(words.next()?)),
+            "--emulator" => a.emulator = words.next()?.split_whitespace().map(String::from).collect(),
+            _ => return None,
         }
     }
-    a
+    Some(a)
 }
 
-/// The program's output on an input, which goes by way of a file.
-fn output(program: &Path, input: &[u8], scratch: &Path) -> Vec<u8> {
-    std::fs::write(scratch, input).expect("the scratch file is written");
-    let file = File::open(scratch).expect("the scratch file is read");
-    let done = Command::new(program).stdin(Stdio::from(file)).stderr(Stdio::inherit()).output();
-    let done = done.unwrap_or_else(|e| panic!("{}: {e}: build it first", program.display()));
-    assert!(done.status.success(), "{} ended with {} on {}", program.display(), done.status, scratch.display());
-    done.stdout
+/// A program, with the words before it.
+struct Program(Vec<String>);
+
+impl Program {
+    fn new(emulator: &[String], path: &Path) -> Self {
+        let mut words = emulator.to_vec();
+        words.push(path.display().to_string());
+        Program(words)
+    }
+
+    /// The program's output on an input, which goes by way of a file.
+    fn output(&self, input: &[u8], scratch: &Path) -> Vec<u8> {
+        std::fs::write(scratch, input).expect("the scratch file is written");
+        let file = File::open(scratch).expect("the scratch file is read");
+        let done = Command::new(&self.0[0]).args(&self.0[1..]).stdin(Stdio::from(file)).stderr(Stdio::inherit()).output();
+        let done = done.unwrap_or_else(|e| panic!("{}: {e}: build it first", self.0.join(" ")));
+        assert!(done.status.success(), "{} ended with {} on {}", self.0.join(" "), done.status, scratch.display());
+        done.stdout
+    }
 }
 
 fn answers_of(script: &str) -> String {
@@ -113,7 +130,8 @@ fn key(call: &str) -> Option<(u64, bool)> {
     }
 }
 
-/// What a run shows of a key: the answers to its frames, and its rows where the table is shown.
+/// What a run shows of a key: the answers to its frames and to every table call, and where the table is shown the count, the next slot, its own rows, and of
+/// the other rows all but the detector.
 fn seen_of(k: (u64, bool), calls: &[&str], output: &str) -> Vec<String> {
     let mut lines = output.lines();
     let mut seen = Vec::new();
@@ -128,23 +146,27 @@ fn seen_of(k: (u64, bool), calls: &[&str], output: &str) -> Vec<String> {
                 }
             }
             "s" => {
-                let count = usize::from_str_radix(&answer[2..4], 16).expect("a count");
+                let count = usize::from_str_radix(&answer[2..10], 16).expect("a count");
+                seen.push(answer);
                 for row in lines.by_ref().take(count) {
                     let fields: Vec<&str> = row.split(' ').collect();
-                    if u64::from_str_radix(fields[2], 16) == Ok(k.0) && (fields[3] == "1") == k.1 {
-                        seen.push(row.to_string());
-                    }
+                    let number = |i: usize| u64::from_str_radix(fields[i], 16).expect("a number");
+                    let own = (number(2), number(3) == 1) == k;
+                    seen.push(if own { row.to_string() } else { fields[..DEFINED].join(" ") });
                 }
             }
-            _ => {}
+            _ => seen.push(answer),
         }
     }
     seen
 }
 
+/// The fields of a row before its detector: the letter, the slot and the definition.
+const DEFINED: usize = 13;
+
 struct Bench {
-    replay: PathBuf,
-    framelog: PathBuf,
+    replay: Program,
+    framelog: Program,
     scratch: PathBuf,
     pack: Option<BufWriter<File>>,
     calls: u64,
@@ -156,7 +178,7 @@ struct Bench {
 impl Bench {
     fn script(&mut self, script: &str) {
         self.calls += script.lines().count() as u64;
-        let differs = |s: &str| output(&self.replay, s.as_bytes(), &self.scratch) != answers_of(s).as_bytes();
+        let differs = |s: &str| self.replay.output(s.as_bytes(), &self.scratch) != answers_of(s).as_bytes();
         if !differs(script) {
             return;
         }
@@ -164,7 +186,7 @@ impl Bench {
         let least = smallest(lines, |l| differs(&l.concat())).concat();
         println!("DIFFERENT on this script:\n{least}");
         println!("the Rust and the model:\n{}", answers_of(&least));
-        println!("this:\n{}", String::from_utf8_lossy(&output(&self.replay, least.as_bytes(), &self.scratch)));
+        println!("this:\n{}", String::from_utf8_lossy(&self.replay.output(least.as_bytes(), &self.scratch)));
         exit(1);
     }
 
@@ -179,28 +201,28 @@ impl Bench {
             }
             return;
         }
-        let differs = |l: &[u8]| output(&self.framelog, l, &self.scratch) != log_of(l);
+        let differs = |l: &[u8]| self.framelog.output(l, &self.scratch) != log_of(l);
         if !differs(log) {
             return;
         }
         let least = smallest(log.to_vec(), differs);
         println!("DIFFERENT on this log: {}", answers::bytes(&least));
         println!("the Rust:\n{}", String::from_utf8_lossy(&log_of(&least)));
-        println!("this:\n{}", String::from_utf8_lossy(&output(&self.framelog, &least, &self.scratch)));
+        println!("this:\n{}", String::from_utf8_lossy(&self.framelog.output(&least, &self.scratch)));
         exit(1);
     }
 
     /// Demand 3 as a run: for each key of a sequence of calls, the same calls without the frames of other keys.
     fn isolation(&mut self, script: &str) {
         let calls: Vec<&str> = script.lines().collect();
-        let whole = String::from_utf8_lossy(&output(&self.replay, script.as_bytes(), &self.scratch)).into_owned();
+        let whole = String::from_utf8_lossy(&self.replay.output(script.as_bytes(), &self.scratch)).into_owned();
         let mut keys: Vec<(u64, bool)> = calls.iter().filter_map(|c| key(c)).collect();
         keys.sort();
         keys.dedup();
         for k in keys {
             let kept: Vec<&str> = calls.iter().copied().filter(|c| key(c).is_none_or(|other| other == k)).collect();
             let fewer = kept.join("\n") + "\n";
-            let alone = String::from_utf8_lossy(&output(&self.replay, fewer.as_bytes(), &self.scratch)).into_owned();
+            let alone = String::from_utf8_lossy(&self.replay.output(fewer.as_bytes(), &self.scratch)).into_owned();
             self.isolated += 1;
             if seen_of(k, &calls, &whole) != seen_of(k, &kept, &alone) {
                 println!("NOT ISOLATED: identifier {:X}, extended {}, on this script:\n{script}", k.0, k.1);
@@ -218,8 +240,9 @@ impl Bench {
         g::values(&mut out, &mut d, 0);
         g::roots(&mut out, &mut d, 0);
         g::every_setting(&mut out, 1);
+        g::lines(&mut out, &mut d, 0);
         g::every_refusal(&mut out, true);
-        g::last_slots(&mut out);
+        g::last_slots(&mut out, true);
         g::crowds(&mut out, &mut d);
         self.script(&out);
         let whole = g::log(&mut d, 24);
@@ -236,6 +259,7 @@ impl Bench {
         g::conversions(&mut out, &mut d, 2_000);
         g::roots(&mut out, &mut d, 1_000);
         g::detectors(&mut out, &mut d, 20_000);
+        g::lines(&mut out, &mut d, 2_000);
         g::engines(&mut out, &mut d, 20_000, 12);
         g::engines(&mut out, &mut d, 400, 1);
         self.script(&out);
@@ -292,11 +316,16 @@ impl Bench {
 }
 
 fn main() {
-    let asked = asked();
+    let words: Vec<String> = std::env::args().skip(1).collect();
+    let Some(asked) = asked(&words) else {
+        eprintln!("{USAGE}");
+        exit(2);
+    };
     let bin = Path::new(env!("CARGO_MANIFEST_DIR")).join("../../target/bin");
     let scratch = std::env::temp_dir().join(format!("compare-{}", std::process::id()));
     let pack = asked.pack.map(|file| BufWriter::new(File::create(file).expect("the pack is made")));
-    let mut b = Bench { replay: bin.join("replay"), framelog: bin.join("framelog"), scratch, pack, calls: 0, records: 0, logs: 0, isolated: 0 };
+    let program = |name| Program::new(&asked.emulator, &bin.join(name));
+    let mut b = Bench { replay: program("replay"), framelog: program("framelog"), scratch, pack, calls: 0, records: 0, logs: 0, isolated: 0 };
     let since = Instant::now();
     let mut said = since;
     if let Some(n) = asked.logs {
@@ -304,9 +333,11 @@ fn main() {
     } else {
         b.fixed();
     }
+    // the seconds that are asked for are those of the rounds
+    let begun = Instant::now();
     let (mut seed, mut rounds) = (asked.seed, 0);
     while asked.logs.is_none() {
-        let late = asked.seconds.is_some_and(|s| since.elapsed().as_secs() >= s);
+        let late = asked.seconds.is_some_and(|s| begun.elapsed().as_secs() >= s);
         let enough = asked.cases.is_some_and(|c| b.calls >= c);
         if late || enough || (asked.seconds.is_none() && asked.cases.is_none() && rounds > 0) {
             break;
@@ -326,4 +357,9 @@ fn main() {
     }
     println!("seeds {} to {}", asked.seed, seed.max(asked.seed + 1) - 1);
     let _ = std::fs::remove_file(&b.scratch);
+    let [calls, logs, keys] = asked.at_least;
+    if b.calls < calls || b.logs < logs || b.isolated < keys {
+        println!("FEWER than the {calls} calls, {logs} logs and {keys} keys alone that were asked for");
+        exit(1);
+    }
 }

@@ -1,4 +1,4 @@
-//! Answers a script of calls on standard input: the unchanged Rust, and on lines of their own (`w`, `v`, `p`) the plain model.
+//! Answers a script of calls on standard input: the unchanged Rust, and on lines of their own (`w`, `v`, `p`, `l`) the plain model.
 //! With `--rust` the model's lines are left out.
 
 use answers::Both;

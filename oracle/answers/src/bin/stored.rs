@@ -12,8 +12,9 @@ fn main() {
     g::roots(&mut out, &mut d, 60);
     g::every_setting(&mut out, 19);
     g::detectors(&mut out, &mut d, 600);
+    g::lines(&mut out, &mut d, 100);
     g::every_refusal(&mut out, false);
-    g::last_slots(&mut out);
+    g::last_slots(&mut out, false);
     g::crowds(&mut out, &mut d);
     g::engines(&mut out, &mut d, 500, 60);
     g::one_engine(&mut out, &mut d, 30, true);

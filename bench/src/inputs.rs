@@ -86,13 +86,14 @@ fn frame(out: &mut Vec<u8>, id: u32, extended: bool, length: u8, data: u64) {
     out.extend(data.to_le_bytes());
 }
 
-/// A table and frames for it, as records of a log.
+/// A table's threshold, and its definitions and frames as records of a log.
 pub struct Traffic {
+    pub threshold: f32,
     pub definitions: Vec<u8>,
     pub frames: Vec<u8>,
 }
 
-/// The settings of every table.
+/// The settings of every table but one.
 pub const ALPHA: f32 = 0.1;
 pub const THRESHOLD: f32 = 3.0;
 
@@ -105,11 +106,17 @@ fn identifier(i: u64) -> (u32, bool) {
     }
 }
 
+/// How often a frame matches nothing, and how often one has values far from the others: once in so many.
+struct Often {
+    nothing: u64,
+    far: u64,
+}
+
 impl Traffic {
     /// `count` definitions over three identifiers for each eight of them (24 for 64), half made of whole bytes, and half of
-    /// 10 or 12 bits; every eighth identifier has a multiplexor of two bits, and its other definitions a condition. A fifth of
-    /// the frames match nothing, one of 32 has another length than 8, and one of 16 has values far from the others.
-    pub fn mix(count: u64, frames: usize) -> Traffic {
+    /// 10 or 12 bits; every eighth identifier has a multiplexor of two bits, and its other definitions a condition. One of 32
+    /// frames has another length than 8.
+    fn mixed(count: u64, frames: usize, often: Often) -> Traffic {
         let mut r = Random::new(0x5EED_0001);
         let ids = (3 * count).div_ceil(8);
         let mut definitions = Vec::new();
@@ -125,12 +132,27 @@ impl Traffic {
         }
         let mut out = Vec::with_capacity(16 * frames);
         for _ in 0..frames {
-            let (id, extended) = if r.once_in(5) { (0x7F0 + r.below(8) as u32, false) } else { identifier(r.below(ids)) };
+            let (id, extended) = if r.once_in(often.nothing) { (0x7F0 + r.below(8) as u32, false) } else { identifier(r.below(ids)) };
             let length = if r.once_in(32) { r.below(16) as u8 } else { 8 };
-            let data = if r.once_in(16) { r.next() } else { 0x4040_4040_4040_4040 | r.next() & 0x0707_0707_0707_0707 };
+            let data = if r.once_in(often.far) { r.next() } else { 0x4040_4040_4040_4040 | r.next() & 0x0707_0707_0707_0707 };
             frame(&mut out, id, extended, length, data);
         }
-        Traffic { definitions, frames: out }
+        Traffic { threshold: THRESHOLD, definitions, frames: out }
+    }
+
+    /// The mix: a fifth of the frames match nothing, and one of 16 has values far from the others.
+    pub fn mix(count: u64, frames: usize) -> Traffic {
+        Traffic::mixed(count, frames, Often { nothing: 5, far: 16 })
+    }
+
+    /// The mix with few frames that are flagged: few have values far from the others, and the threshold is one that the others do not reach.
+    pub fn quiet(frames: usize) -> Traffic {
+        Traffic { threshold: 30.0, ..Traffic::mixed(64, frames, Often { nothing: 5, far: 4_000 }) }
+    }
+
+    /// The mix with half the frames matching nothing.
+    pub fn half(frames: usize) -> Traffic {
+        Traffic::mixed(64, frames, Often { nothing: 2, far: 16 })
     }
 
     /// The table of the mix, and frames that match nothing.
@@ -140,7 +162,7 @@ impl Traffic {
         for _ in 0..frames {
             frame(&mut out, 0x108 + 0x10 * r.below(32) as u32, false, 8, r.next());
         }
-        Traffic { definitions: Traffic::mix(64, 0).definitions, frames: out }
+        Traffic { definitions: Traffic::mix(64, 0).definitions, frames: out, threshold: THRESHOLD }
     }
 
     /// Eight definitions for each of eight identifiers, and frames of these.
@@ -158,14 +180,14 @@ impl Traffic {
             let data = if r.once_in(16) { r.next() } else { 0x4040_4040_4040_4040 | r.next() & 0x0707_0707_0707_0707 };
             frame(&mut out, id, extended, 8, data);
         }
-        Traffic { definitions, frames: out }
+        Traffic { threshold: THRESHOLD, definitions, frames: out }
     }
 
     /// All of it as a log.
     pub fn log(&self) -> Vec<u8> {
         let mut out = vec![0xA5, 0x50];
         out.extend(ALPHA.to_le_bytes());
-        out.extend(THRESHOLD.to_le_bytes());
+        out.extend(self.threshold.to_le_bytes());
         out.extend(&self.definitions);
         out.extend(&self.frames);
         out

@@ -112,14 +112,14 @@ fn update(name: &str, turns: usize) -> Row {
 }
 
 fn frames(name: &str, aim: Option<f64>, traffic: Traffic) -> Row {
-    let Traffic { definitions, frames } = traffic;
+    let Traffic { threshold, definitions, frames } = traffic;
     let (same_definitions, same_frames) = (definitions.clone(), frames.clone());
     Row::new(
         name,
         frames.len() / 16,
         aim,
-        Box::new(move || clock::of(|| proved::frames(ALPHA, THRESHOLD, &definitions, &frames))),
-        Box::new(move || clock::of(|| unchanged::frames(ALPHA, THRESHOLD, &same_definitions, &same_frames))),
+        Box::new(move || clock::of(|| proved::frames(ALPHA, threshold, &definitions, &frames))),
+        Box::new(move || clock::of(|| unchanged::frames(ALPHA, threshold, &same_definitions, &same_frames))),
     )
 }
 
@@ -148,12 +148,14 @@ impl Programs {
     fn output(program: &Path, log: &Path) -> Vec<u8> {
         let input = std::fs::File::open(log).expect("the log");
         let run = Command::new(program).stdin(input).stderr(Stdio::inherit()).output();
-        run.expect("the program runs").stdout
+        let run = run.expect("the program runs");
+        assert!(run.status.success(), "{} ended with {}", program.display(), run.status);
+        run.stdout
     }
 
     fn log(&self, name: &str, aim: Option<f64>, traffic: Traffic) -> Row {
         let calls = traffic.frames.len() / 16;
-        let log = self.logs.join(format!("{}-{calls}.log", traffic.definitions.len() / 24));
+        let log = self.logs.join(format!("{}.log", name.replace([' ', ','], "_")));
         std::fs::write(&log, traffic.log()).expect("the log is written");
         let text = Programs::output(&self.ours, &log);
         assert!(text == Programs::output(&self.rust, &log), "{name}: the outputs differ");
@@ -177,10 +179,14 @@ fn calls(programs: &Programs) -> Vec<Row> {
         update("update, one detector", 1),
         update("update, 64 detectors in turn", 64),
         frames("frame, the mix", Some(2.5), Traffic::mix(64, CALLS)),
+        frames("frame, the mix, few flagged", None, Traffic::quiet(CALLS)),
+        frames("frame, the mix, half match nothing", None, Traffic::half(CALLS)),
         frames("frame, nothing matches", None, Traffic::nothing(CALLS)),
         frames("frame, eight match", None, Traffic::eight(CALLS)),
         tables("definition into a table of up to 64"),
         programs.log("log, the mix, 1000000 frames", Some(2.0), Traffic::mix(64, 1_000_000)),
+        programs.log("log, few flagged, 1000000 frames", None, Traffic::quiet(1_000_000)),
+        programs.log("log, half match nothing, 1000000 frames", None, Traffic::half(1_000_000)),
     ]
 }
 

@@ -9,6 +9,7 @@ use lib.ListN.{getD, take, drop, drop-of-length-le}
 use lib.Seq.{take-all}
 use Rattle.conversion.specs.declared.SignalDefinition.{SignalDefinition}
 use Rattle.table.specs.declared.Entry.{Entry}
+use Rattle.table.specs.Rows.{first}
 use Rattle.table.proofs.Laws.{first-hit, first-next}
 use Rattle.table.proofs.Columns.{Sound, past}
 use Rattle.frames.specs.declared.Multiplexor.{Multiplexor}
@@ -44,32 +45,40 @@ module _ (x : Bool) (s : List ℕ) (n : ℕ) (d : SignalDefinition) where
 abbrev pub muxFrom : Visit → List Entry → Multiplexor
 muxFrom v = multiplexorOf (v .id) (v .extended) (v .bytes) (v .size)
 
--- the rows before k have no multiplexor
-pub record Searching (v : Visit) (k : ℕ) : Type 0 where
+-- the multiplexor of some rows, m where there is none
+abbrev muxOr : Visit → Multiplexor → List Entry → Multiplexor
+muxOr v m = first (selects (v .id) (v .extended)) (λ row. numberOf (v .bytes) (v .size) (row .signal .definition)) m
+
+-- what is left to the search is the rows from k on, with m where they have no multiplexor
+pub record Searching (v : Visit) (m : Multiplexor) (k : ℕ) : Type 0 where
   pub here : Here v k
-  pub none : muxFrom v (rows v) ≡ muxFrom v (drop k (rows v))
+  pub left : muxFrom v (rows v) ≡ muxOr v m (drop k (rows v))
 
 module _ (v : Visit) (good : Sound (v .engine)) where
   -- from place i the search goes on at the next row with the identifier
-  goes-on : (i : ℕ) {k : ℕ}
+  goes-on : (m : Multiplexor) (i : ℕ) {k : ℕ}
       → v .n ≤ 64
       → i ≤ v .n
       → k ≡ rowFrom i (v .n) (v .id) (v .engine .ids)
-      → muxFrom v (rows v) ≡ muxFrom v (drop i (rows v))
-      → Searching v k
-  goes-on i {k} few h e g =
+      → muxFrom v (rows v) ≡ muxOr v m (drop i (rows v))
+      → Searching v m k
+  goes-on m i {k} few h e g =
       record {
         here = arrives v good few i h e;
-        none =
+        left =
             g
-            ∙ first-gap (unnamed (v .id)) (selects (v .id) (v .extended)) (not-selecting (v .id) (v .extended)) (λ row. numberOf (v .bytes) (v .size) (row .signal .definition)) Missing (rows v) i
-            ∙ ap (λ (j : ℕ). muxFrom v (drop j (rows v))) (sym (e ∙ row-from v good few i));
+            ∙ first-gap (unnamed (v .id)) (selects (v .id) (v .extended)) (not-selecting (v .id) (v .extended)) (λ row. numberOf (v .bytes) (v .size) (row .signal .definition)) m (rows v) i
+            ∙ ap (λ (j : ℕ). muxOr v m (drop j (rows v))) (sym (e ∙ row-from v good few i));
       }
 
-  pub search-begins : {k : ℕ} → v .n ≤ 64 → k ≡ rowFrom 0 (v .n) (v .id) (v .engine .ids) → Searching v k
-  search-begins few e = goes-on 0 few (omega arith) e refl
+  pub search-begins : {k : ℕ} → v .n ≤ 64 → k ≡ rowFrom 0 (v .n) (v .id) (v .engine .ids) → Searching v Missing k
+  search-begins few e = goes-on Missing 0 few (omega arith) e refl
 
-  module _ {k : ℕ} (inv : Searching v k) (more : k < v .n) where
+  -- past the last row m is the multiplexor
+  pub search-is : {m : Multiplexor} {k : ℕ} → Searching v m k → v .n ≤ k → m ≡ muxFrom v (rows v)
+  search-is {m} {k} inv end = sym (inv .left ∙ ap (muxOr v m) (drop-of-length-le (rows v) {i = k} (omega (arith, long v good (inv .here .few)))))
+
+  module _ {m : Multiplexor} {k : ℕ} (inv : Searching v m k) (more : k < v .n) where
     -- row k by what the search has of it
     here-selects : {b : Bool}
         → isMultiplexor (v .extended) (v .bytes) (v .size) (read (v .engine) k .signal .definition) ≡ b
@@ -82,24 +91,27 @@ module _ (v : Visit) (good : Sound (v .engine)) where
     inside : take (v .n) (rows v) ≡ rows v
     inside = take-all (v .n) (rows v) (omega (arith, long v good (inv .here .few)))
 
-    from-here : muxFrom v (rows v) ≡ muxFrom v (drop k (take (v .n) (rows v)))
-    from-here = inv .none ∙ ap (λ (l : List Entry). muxFrom v (drop k l)) (sym inside)
+    from-here : muxFrom v (rows v) ≡ muxOr v m (drop k (take (v .n) (rows v)))
+    from-here = inv .left ∙ ap (λ (l : List Entry). muxOr v m (drop k l)) (sym inside)
 
-    pub search-ends : {m : Multiplexor} → Ends m ≡ soughtIn (v .extended) (v .bytes) (v .size) (read (v .engine) k .signal .definition) → m ≡ muxFrom v (rows v)
-    search-ends h =
+    -- a multiplexor of the key ends the search, with its number or with none
+    pub search-ends : {found : Multiplexor} → Ends found ≡ soughtIn (v .extended) (v .bytes) (v .size) (read (v .engine) k .signal .definition) → Searching v found (v .n)
+    search-ends {found} h =
         let is = ends (v .extended) (v .bytes) (v .size) (read (v .engine) k .signal .definition) h in
-        is .1
-        ∙ ap (λ (row : Entry). numberOf (v .bytes) (v .size) (row .signal .definition)) (sym (row-read v good (inv .here .few) k more))
-        ∙ first-hit (selects (v .id) (v .extended)) (λ row. numberOf (v .bytes) (v .size) (row .signal .definition)) Missing (rows v) (v .n) k past more (omega (arith, long v good (inv .here .few))) (here-selects (is .0)) from-here
+        record {
+          here = record { few = inv .here .few; inside = omega arith; has-id = λ less. absurd (omega arith) };
+          left =
+              sym (is .1
+              ∙ ap (λ (row : Entry). numberOf (v .bytes) (v .size) (row .signal .definition)) (sym (row-read v good (inv .here .few) k more))
+              ∙ first-hit (selects (v .id) (v .extended)) (λ row. numberOf (v .bytes) (v .size) (row .signal .definition)) m (rows v) (v .n) k past more (omega (arith, long v good (inv .here .few))) (here-selects (is .0)) from-here)
+              ∙ ap (muxOr v found) (sym (drop-of-length-le (rows v) {i = v .n} (omega (arith, long v good (inv .here .few)))));
+        }
 
     pub search-on : {j : ℕ}
         → GoesOn ≡ soughtIn (v .extended) (v .bytes) (v .size) (read (v .engine) k .signal .definition)
         → j ≡ rowFrom (k + 1) (v .n) (v .id) (v .engine .ids)
-        → Searching v j
+        → Searching v m j
     search-on h e =
-        goes-on (k + 1) (inv .here .few) (omega arith) e
-        (first-next (selects (v .id) (v .extended)) (λ row. numberOf (v .bytes) (v .size) (row .signal .definition)) Missing (rows v) (v .n) k past more (omega (arith, long v good (inv .here .few))) (here-selects (goes (v .extended) (v .bytes) (v .size) (read (v .engine) k .signal .definition) h)) from-here
-        ∙ ap (λ (l : List Entry). muxFrom v (drop (k + 1) l)) inside)
-
-  pub search-missing : {k : ℕ} → Searching v k → v .n ≤ k → Missing ≡ muxFrom v (rows v)
-  search-missing {k} inv end = sym (inv .none ∙ ap (muxFrom v) (drop-of-length-le (rows v) {i = k} (omega (arith, long v good (inv .here .few)))))
+        goes-on m (k + 1) (inv .here .few) (omega arith) e
+        (first-next (selects (v .id) (v .extended)) (λ row. numberOf (v .bytes) (v .size) (row .signal .definition)) m (rows v) (v .n) k past more (omega (arith, long v good (inv .here .few))) (here-selects (goes (v .extended) (v .bytes) (v .size) (read (v .engine) k .signal .definition) h)) from-here
+        ∙ ap (λ (l : List Entry). muxOr v m (drop (k + 1) l)) inside)

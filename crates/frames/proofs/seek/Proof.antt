@@ -5,7 +5,6 @@ use denote.Ref.{now}
 use borrow.Author.Tests.{not-true, not-false}
 use Rattle.bits.specs.Answers.{rawMeans}
 use Rattle.bits.specs.declared.Raw.{Raw}
-use Rattle.conversion.specs.Extract.{rawSignal}
 use Rattle.frames.specs.declared.Sought.the-variants.{Ends}
 use Rattle.frames.specs.Frames.{numbered}
 use Rattle.frames.proofs.Steps.{seek-other-type, seek-plain, seek-multiplexor}
@@ -26,8 +25,8 @@ returns-2 c =
     let a = c .before .before .before .before .before .before .args in
     seek-plain (a .extended) (now (a .bytes)) (a .data-len) (a .signal .definition) (sym (c .before .before .before .before .is-typed .ensures) ∙ not-false _ (c .before .before .before .if1 .left)) (not-true _ (c .if2 .taken))
 
-extract-raw-requires : tie.Need-extract-raw-requires
-extract-raw-requires c κs = search needs
+extract-signal-raw-requires : tie.Need-extract-signal-raw-requires
+extract-signal-raw-requires c κs = search needs
 
 enum-known-v : tie.Need-enum-known-v
 enum-known-v c = search needs
@@ -36,18 +35,16 @@ enum-told : tie.Need-enum-told
 enum-told c = search needs
 
 returns-3 : tie.Need-returns-3
-unfolding rawSignal
 returns-3 c =
     let a = c .before .before .before .before .before .before .before .before .before .args in
     ap (λ (q : Raw). Ends (numbered (rawMeans q))) (sym (c .enum-told .given .1))
-    ∙ seek-multiplexor (a .extended) (now (a .bytes)) (a .data-len) (a .signal .definition) (sym (c .before .before .before .before .before .before .before .is-typed .ensures) ∙ not-false _ (c .before .before .before .before .before .before .if1 .left)) (not-false _ (c .before .before .before .if2 .left)) (c .before .before .extract-raw .result) (c .before .before .extract-raw .ensures)
+    ∙ seek-multiplexor (a .extended) (now (a .bytes)) (a .data-len) (a .signal .definition) (sym (c .before .before .before .before .before .before .before .is-typed .ensures) ∙ not-false _ (c .before .before .before .before .before .before .if1 .left)) (not-false _ (c .before .before .before .if2 .left)) (c .before .before .extract-signal-raw .result) (c .before .before .extract-signal-raw .ensures)
 
 returns-4 : tie.Need-returns-4
-unfolding rawSignal
 returns-4 c =
     let a = c .before .before .before .before .before .before .before .before .before .before .args in
     ap (λ (q : Raw). Ends (numbered (rawMeans q))) (sym (c .before .v .given .1))
-    ∙ seek-multiplexor (a .extended) (now (a .bytes)) (a .data-len) (a .signal .definition) (sym (c .before .before .before .before .before .before .before .before .is-typed .ensures) ∙ not-false _ (c .before .before .before .before .before .before .before .if1 .left)) (not-false _ (c .before .before .before .before .if2 .left)) (c .before .before .before .extract-raw .result) (c .before .before .before .extract-raw .ensures)
+    ∙ seek-multiplexor (a .extended) (now (a .bytes)) (a .data-len) (a .signal .definition) (sym (c .before .before .before .before .before .before .before .before .is-typed .ensures) ∙ not-false _ (c .before .before .before .before .before .before .before .if1 .left)) (not-false _ (c .before .before .before .before .if2 .left)) (c .before .before .before .extract-signal-raw .result) (c .before .before .before .extract-signal-raw .ensures)
 
 pub seek-spec : {M : Type 1} → statement M
 seek-spec =
@@ -56,7 +53,7 @@ seek-spec =
     is-typed-requires
     returns
     returns-2
-    extract-raw-requires
+    extract-signal-raw-requires
     enum-known-v
     enum-told
     returns-3

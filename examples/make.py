@@ -1,5 +1,5 @@
 #!/usr/bin/env python3
-"""Writes the example logs beside this file: document01.log, larger.log, empty.log and damaged/*.log.
+"""Writes the example logs beside this file: document01.log, larger.log, empty.log, remote_*.log and damaged/*.log.
 What framelog must print for each is the .out file of the same name."""
 import os
 import struct
@@ -7,6 +7,8 @@ import struct
 HERE = os.path.dirname(os.path.abspath(__file__))
 
 EXTENDED, MOTOROLA, SIGNED, MULTIPLEXOR, CONDITION = 1, 2, 4, 8, 16
+# of a frame, beside EXTENDED
+REMOTE = 2
 
 
 def settings(alpha=0.5, threshold=3.0):
@@ -100,6 +102,59 @@ def larger():
             yield define(0x0C0, 0, 16, 0.25)
 
 
+def remote_lengths():
+    """Remote frames with every length field and far values in their bytes, of both types; the frame behind them is flagged as if there were none."""
+    yield settings()
+    for flags in (0, EXTENDED):
+        yield define(0x100, 0, 8, flags=flags)
+        for _ in range(5):
+            yield frame(0x100, [0], flags=flags)
+        for length in range(16):
+            yield frame(0x100, [255] * 8, length=length, flags=flags | REMOTE)
+        yield frame(0x100, [1], flags=flags)
+
+
+def remote_multiplexors():
+    """Remote frames whose bytes have each number of a multiplexor, and far values: no signal has a value. That no condition is met shows in scripts alone."""
+    yield settings()
+    yield define(0x200, 0, 8, flags=MULTIPLEXOR)
+    yield define(0x200, 8, 8)
+    for number in (0, 1, 255):
+        yield define(0x200, 8, 8, flags=CONDITION, condition=number)
+    # a multiplexor with a condition of its own, and a second one behind it
+    yield define(0x201, 0, 4, flags=MULTIPLEXOR)
+    yield define(0x201, 0, 8, flags=MULTIPLEXOR | CONDITION, condition=1)
+    yield define(0x201, 8, 8, flags=CONDITION, condition=1)
+    for k in range(18):
+        for can_id in (0x200, 0x201):
+            yield frame(can_id, [k % 2, 10])
+            for number in (0, 1, 255):
+                yield frame(can_id, [number, 200, 0, 0, 0, 0, 0, 0], length=k % 16, flags=REMOTE)
+    for can_id in (0x200, 0x201):
+        for number in (0, 1, 255):
+            yield frame(can_id, [number, 200])
+
+
+def remote_between():
+    """Remote frames between other frames of the same key: while the detector is empty, warms up, scores and is frozen. They use no place of a freeze."""
+    yield settings(0.5, 2.0)
+    yield define(0x300, 0, 16, 0.5, -10.0)
+    yield define(0x300, 0, 16, 0.5, -10.0, EXTENDED)
+    for k in range(60):
+        value = 100 + k % 3 + (50 if k in (20, 33, 34, 47) else 0)
+        for flags in (0, EXTENDED):
+            yield frame(0x300, [0xFF, 0xFF], length=k % 16, flags=flags | REMOTE)
+            yield frame(0x300, [value, 0], flags=flags)
+            if k % 4 == 0:
+                yield frame(0x300, [], length=8, flags=flags | REMOTE)
+                yield frame(0x300, [0, 0x80], length=8, flags=flags | REMOTE)
+    yield remove(0)
+    yield frame(0x300, [1, 0], flags=REMOTE)
+    yield define(0x300, 0, 16, 0.5, -10.0)
+    yield frame(0x300, [1, 0], flags=REMOTE)
+    yield frame(0x300, [1, 0])
+
+
 GOOD = b"".join(document01())
 
 DAMAGED = {
@@ -129,8 +184,16 @@ DAMAGED = {
     "condition_without_flag": settings() + define(0x100, 0, 8, condition=1),
     "condition_high_byte": settings() + define(0x100, 0, 8, condition=0x100),
     "bad_definition_bad_flag": settings() + define(0x900, 0, 0, flags=64),
+    "frame_flag_4": GOOD + frame(0x100, [0], flags=4),
+    "frame_flag_6": GOOD + frame(0x100, [0], flags=6),
+    "frame_flag_128": GOOD + frame(0x100, [0], flags=128),
+    "frame_flag_7_and_length": GOOD + frame(0x100, [0], length=16, flags=7),
+    # bit 1 stopped a log with 13 before it was the remote flag
     "frame_flag": GOOD + frame(0x100, [0], flags=2),
     "frame_flag_and_length": GOOD + frame(0x100, [0], length=16, flags=3),
+    "remote_length_255": GOOD + frame(0x100, [0], length=255, flags=2),
+    "remote_cut": GOOD + frame(0x100, [0], flags=2)[:-1],
+    "remote_first": frame(0x100, [0], flags=2),
     # frame lengths
     "frame_length_16": GOOD + frame(0x100, [0], length=16),
     "frame_length_255": GOOD + frame(0x100, [0], length=255),
@@ -157,6 +220,8 @@ def write(name, data):
 write("document01.log", GOOD)
 write("larger.log", b"".join(larger()))
 write("empty.log", b"")
+for made in (remote_lengths, remote_multiplexors, remote_between):
+    write(f"{made.__name__}.log", b"".join(made()))
 os.makedirs(os.path.join(HERE, "damaged"), exist_ok=True)
 for name, data in DAMAGED.items():
     write(f"damaged/{name}.log", data)

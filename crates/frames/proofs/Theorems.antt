@@ -134,18 +134,21 @@ none-move id x s n m (row ∷ l) h = go (λ k. none-move id x s n m l k) (applie
     go rest true e k = absurd (omega (arith, ap length k))
     go rest false e k = ap (λ (r : Entry). r ∷ map (nextOf id x s n m) l) (next-stays id x s n m row e) ∙ ap (λ (r : List Entry). row ∷ r) (rest k)
 
+-- the live rows' own detectors, put back
+pub moved-live : (e : SignalIdsEngine) → Sound e → moved e (live e) ≡ e
+moved-live e good =
+    ap (withDetectors e)
+    (ap (λ (l : List EwmaDetector). l ++ drop (e .count) (e .detectors)) (map-take detectorOf (e .count) (rowsOf e) ∙ ap (take (e .count)) (detectors-are e good))
+    ∙ take-append-drop (e .count) (e .detectors))
+
 pub nothing-applies : (e : SignalIdsEngine) → Sound e → (id : ℕ) (x : Bool) (s : List ℕ) (n : ℕ)
     → keep (applies id x) (live e) ≡ []
     → processed e id x s n ≡ record { engine = e; result = answered [] }
 nothing-applies e good id x s n h =
     let m : Multiplexor = multiplexorOf id x s n (live e) in
-    let same : moved e (live e) ≡ e =
-    ap (withDetectors e)
-    (ap (λ (l : List EwmaDetector). l ++ drop (e .count) (e .detectors)) (map-take detectorOf (e .count) (rowsOf e) ∙ ap (take (e .count)) (detectors-are e good))
-    ∙ take-append-drop (e .count) (e .detectors)) in
     ap (λ (l : List Entry). (record { engine = moved e l; result = answered (reports id x s n (live e)) })) (none-move id x s n m (live e) h)
     ∙ ap (λ (l : List Entry). (record { engine = moved e (live e); result = answered (map (reportOf s n m) l) })) h
-    ∙ ap (λ (q : SignalIdsEngine). (record { engine = q; result = answered [] })) same
+    ∙ ap (λ (q : SignalIdsEngine). (record { engine = q; result = answered [] })) (moved-live e good)
 
 -- ---- the multiplexor's number fits 16 bits in every table that calls make
 number-below : (s : List ℕ) (n : ℕ) (d : SignalDefinition) (k : ℕ) → fault d ≡ 0 → d .«is_multiplexor» ≡ true → numberOf s n d ≡ Number k → k < 65536

@@ -99,7 +99,7 @@ record-whole s t Mark.Definition =
     choose (Short s) (badFlags (getD t 6 0) (le16 t 22)) _ _ (λ _. stop-whole s 13) (λ _ q. let z : _≡_ {A = ℕ} 0 1 = cc in absurd (omega arith))
 record-whole s t Mark.Removal = λ q. let z : _≡_ {A = ℕ} 0 1 = cc in absurd (omega arith)
 record-whole s t Mark.Frame =
-    choose (Short s) (leb 2 (getD t 2 0)) _ _ (λ _. stop-whole s 13)
+    choose (Short s) (leb 4 (getD t 2 0)) _ _ (λ _. stop-whole s 13)
     (λ _. choose (Short s) (ltb 15 (getD t 3 0)) _ _ (λ _. stop-whole s 14) (λ _ q. let z : _≡_ {A = ℕ} 0 1 = cc in absurd (omega arith)))
 record-whole s t Mark.Unknown = stop-whole s 10
 
@@ -131,7 +131,7 @@ item-waits e log s (Front.fault k) q = cc
 item-waits e log s (Front.settings a t) q = absurd (settled-goes log (createdBy a t .engine) (createdBy a t .answer) q)
 item-waits e log s (Front.definition d) q = cc
 item-waits e log s (Front.removal k) q = cc
-item-waits e log s (Front.frame i x n) q = cc
+item-waits e log s (Front.frame i x y n) q = cc
 
 step-short : (e : Bool) (log : Log) (s : List ℕ) → stepOf e log s .status ≡ Standing.waits → length s < 24
 unfolding stepOf

@@ -6,4 +6,5 @@ pub mod Runs
 pub mod Seams
 pub mod Ends
 pub mod Example
+pub mod Remote
 pub mod Determined

@@ -243,22 +243,22 @@ module _ {s : List ℕ} {e : Bool} {d : List ℕ} {log₀ : Log} {out : List ℕ
               (record { log = p .log; used = ap (λ (j : ℕ). used + j) (p .used); put = p .put; status = p .status })
 
       -- ---- a frame
-      module _ (id : ℕ) (x : Bool) (n : ℕ) (q : i ≡ Item.Frame id x n) where
+      module _ (id : ℕ) (x r : Bool) (n : ℕ) (q : i ≡ Item.Frame id x r n) where
         pub frame-bytes : 16 ≤ length (take (length s - used) (drop used s))
-        frame-bytes = has (log .count) (take (length s - used) (drop used s)) (itemMeans i) (itemMeans (Item.Frame id x n)) found (ap itemMeans q)
+        frame-bytes = has (log .count) (take (length s - used) (drop used s)) (itemMeans i) (itemMeans (Item.Frame id x r n)) found (ap itemMeans q)
 
         pub frame-used : used + 16 ≤ length s
-        frame-used = omega (arith, has (log .count) (drop used s) (itemMeans i) (itemMeans (Item.Frame id x n)) front (ap itemMeans q), length-drop used s, w .got)
+        frame-used = omega (arith, has (log .count) (drop used s) (itemMeans i) (itemMeans (Item.Frame id x r n)) front (ap itemMeans q), length-drop used s, w .got)
 
         pub frame-counts : log .count < 4294967295
-        frame-counts = counts-on (log .count) (drop used s) (itemMeans i) (itemMeans (Item.Frame id x n)) front (ap itemMeans q) (w .few-enough) (omega arith)
+        frame-counts = counts-on (log .count) (drop used s) (itemMeans i) (itemMeans (Item.Frame id x r n)) front (ap itemMeans q) (w .few-enough) (omega arith)
 
         pub frame-less : length s - (used + 16) < length s - used
         frame-less = omega (arith, frame-used)
 
-        module _ {f : CanFrame} (ef : f ≡ frameAt id x n (take (length s - used) (drop used s))) (y : Processed) (ey : processedMeans y ≡ processedBy (log .engine) f) where
+        module _ {f : CanFrame} (ef : f ≡ frameAt id x r n (take (length s - used) (drop used s))) (y : Processed) (ey : processedMeans y ≡ processedBy (log .engine) f) where
           frame-here : frameStep log f ≡ stepOf e log (drop used s)
-          frame-here = ap (frameStep log) (ef ∙ ap (frameAt id x n) (part-all s used)) ∙ at-item e log (drop used s) (itemMeans i) (itemMeans (Item.Frame id x n)) front (ap itemMeans q)
+          frame-here = ap (frameStep log) (ef ∙ ap (frameAt id x r n) (part-all s used)) ∙ at-item e log (drop used s) (itemMeans i) (itemMeans (Item.Frame id x r n)) front (ap itemMeans q)
 
           -- its lines have room
           pub frame-room : (y .result .«anomaly_count» ≤ 8) × (end + 55 * y .result .«anomaly_count» ≤ length out)

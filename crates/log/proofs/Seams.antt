@@ -72,8 +72,8 @@ stable n (a ∷ b ∷ s) t = go (eqb n 4294967295) refl
 
 -- ---- nor a step but one that waits
 
-frame-same : (log : Log) (i : ℕ) (x : Bool) (n : ℕ) (s t : List ℕ) → dataOf s ≡ dataOf t → frameStep log (frameAt i x n s) ≡ frameStep log (frameAt i x n t)
-frame-same log i x n s t e = ap (λ (l : List ℕ). frameStep log (record { id = i; «is_extended» = x; length = n; «data» = l })) e
+frame-same : (log : Log) (i : ℕ) (x y : Bool) (n : ℕ) (s t : List ℕ) → dataOf s ≡ dataOf t → frameStep log (frameAt i x y n s) ≡ frameStep log (frameAt i x y n t)
+frame-same log i x y n s t e = ap (λ (l : List ℕ). frameStep log (record { id = i; «is_extended» = x; «is_remote» = y; length = n; «data» = l })) e
 
 item-same : (log : Log) (s t : List ℕ) (i : Front) → taken i ≤ length s → (itemStep false log s i ≡ waiting log) ⊎ (itemStep true log (s ++ t) i ≡ itemStep false log s i)
 item-same log s t Front.incomplete h = inl refl
@@ -81,10 +81,10 @@ item-same log s t (Front.fault k) h = inr refl
 item-same log s t (Front.settings a u) h = inr refl
 item-same log s t (Front.definition d) h = inr refl
 item-same log s t (Front.removal k) h = inr refl
-item-same log s t (Front.frame i x n) h =
+item-same log s t (Front.frame i x y n) h =
     let l : 8 ≤ length s = omega arith in
     let l′ : 8 ≤ length (drop 8 s) = omega (arith, length-drop 8 s) in
-    inr (frame-same log i x n (s ++ t) s (ap (take 8) (drop-append-le 8 s t l) ∙ take-append-le 8 (drop 8 s) t l′))
+    inr (frame-same log i x y n (s ++ t) s (ap (take 8) (drop-append-le 8 s t l) ∙ take-append-le 8 (drop 8 s) t l′))
 
 pub step-stable : (e : Bool) (log : Log) (s t : List ℕ) → (e ≡ true → t ≡ []) → (stepOf e log s ≡ waiting log) ⊎ (stepOf true log (s ++ t) ≡ stepOf e log s)
 unfolding stepOf

@@ -3,7 +3,7 @@ use mathlib.Core.Path.{_≡_, refl, sym, _∙_, ap, subst}
 use mathlib.Core.Bool.{Bool, true, false, cond, true≢false}
 use mathlib.Core.List.{List, [], _∷_}
 use mathlib.Core.Logic.{_⊎_, inl, inr}
-use Prim.Native.Nat.{ℕ, _+_, _^_, _<_, _≤_, min}
+use Prim.Native.Nat.{ℕ, _+_, _%_, _^_, _<_, _≤_, min}
 use native.Mathlib.Omega.{arith}
 use native.Mathlib.Decide.{decLe}
 use lib.ListN.{length, take, getD, length-take}
@@ -17,7 +17,7 @@ use Rattle.log.specs.declared.decode.Mark.{Mark}
 use Rattle.log.specs.declared.decode.Request.{Request}
 use Rattle.log.specs.declared.stream.Log.{Log}
 use Rattle.log.specs.declared.stream.Step.{Step}
-use Rattle.log.specs.Records.{Front, requestMeans, itemOf, marked, markOf, sizeOf, misplaced, recordOf, settingsOf, defineOf, removeOf, frameOf, badFlags, definitionOf, le16, le32}
+use Rattle.log.specs.Records.{Front, requestMeans, itemOf, marked, markOf, sizeOf, misplaced, recordOf, settingsOf, defineOf, removeOf, frameOf, badFlags, definitionOf, flag, le16, le32}
 use Rattle.log.specs.Lines.{Put, ascii}
 use Rattle.log.specs.Output.{Standing, statusMeans, createdBy, definedBy, removedBy, processedBy, dataOf, frameAt, Move, itemStep, stepOf, settledStep, requestStep, frameStep, goStep, stopStep, waitStep, lastNumber, goesOn, waiting}
 use Rattle.log.specs.Pieces.{Does, after, soundOf}
@@ -29,8 +29,8 @@ pub choose : {A : Type 0} (P : A → Type 0) (b : Bool) (x y : A) → (b ≡ tru
 choose P true x y p q = p refl
 choose P false x y p q = q refl
 
-abbrev frameOf′ : ℕ → Bool → ℕ → List ℕ → CanFrame
-frameOf′ id x n l = record { id = id; «is_extended» = x; length = n; «data» = l }
+abbrev frameOf′ : ℕ → Bool → Bool → ℕ → List ℕ → CanFrame
+frameOf′ id x y n l = record { id = id; «is_extended» = x; «is_remote» = y; length = n; «data» = l }
 
 eight : (s : List ℕ) → 16 ≤ length s
     → getD s 8 0 ∷ getD s 9 0 ∷ getD s 10 0 ∷ getD s 11 0 ∷ getD s 12 0 ∷ getD s 13 0 ∷ getD s 14 0 ∷ getD s 15 0 ∷ [] ≡ dataOf s
@@ -47,10 +47,10 @@ eight s h =
     ) refl
 
 -- the data bytes one by one
-pub framed : (id : ℕ) (x : Bool) (n : ℕ) (s : List ℕ) → 16 ≤ length s
-    → record { id = id; «is_extended» = x; length = n; «data» = getD s 8 0 ∷ getD s 9 0 ∷ getD s 10 0 ∷ getD s 11 0 ∷ getD s 12 0 ∷ getD s 13 0 ∷ getD s 14 0 ∷ getD s 15 0 ∷ [] }
-    ≡ frameAt id x n s
-framed id x n s h = ap (λ (l : List ℕ). frameOf′ id x n l) (eight s h)
+pub framed : (id : ℕ) (x y : Bool) (n : ℕ) (s : List ℕ) → 16 ≤ length s
+    → record { id = id; «is_extended» = x; «is_remote» = y; length = n; «data» = getD s 8 0 ∷ getD s 9 0 ∷ getD s 10 0 ∷ getD s 11 0 ∷ getD s 12 0 ∷ getD s 13 0 ∷ getD s 14 0 ∷ getD s 15 0 ∷ [] }
+    ≡ frameAt id x y n s
+framed id x y n s h = ap (λ (l : List ℕ). frameOf′ id x y n l) (eight s h)
 
 -- ---- how many bytes an item takes: 0 if the log does not go on
 
@@ -60,7 +60,7 @@ taken (Front.fault k) = 0
 taken (Front.settings a t) = 10
 taken (Front.definition d) = 24
 taken (Front.removal k) = 4
-taken (Front.frame i x n) = 16
+taken (Front.frame i x y n) = 16
 
 stop-or : (k m : ℕ) (b : Bool) (i : Front) → taken i ≤ m → taken (cond b (Front.fault k) i) ≤ m
 stop-or k m true i h = omega arith
@@ -72,8 +72,8 @@ record-taken s Mark.Settings = omega arith
 record-taken s Mark.Definition = stop-or 13 24 (badFlags (getD s 6 0) (le16 s 22)) (Front.definition (definitionOf s (getD s 6 0))) (omega arith)
 record-taken s Mark.Removal = omega arith
 record-taken s Mark.Frame =
-    let i = Front.frame (le32 s 4) (eqb (getD s 2 0) 1) (getD s 3 0) in
-    stop-or 13 16 (leb 2 (getD s 2 0)) (cond (ltb 15 (getD s 3 0)) (Front.fault 14) i) (stop-or 14 16 (ltb 15 (getD s 3 0)) i (omega arith))
+    let i = Front.frame (le32 s 4) (eqb (getD s 2 0 % 2) 1) (flag 2 (getD s 2 0)) (getD s 3 0) in
+    stop-or 13 16 (leb 4 (getD s 2 0)) (cond (ltb 15 (getD s 3 0)) (Front.fault 14) i) (stop-or 14 16 (ltb 15 (getD s 3 0)) i (omega arith))
 record-taken s Mark.Unknown = omega arith
 
 marked-taken : (n : ℕ) (s : List ℕ) (k : Mark) → taken (marked n s k) ≤ length s
@@ -185,7 +185,7 @@ item-bounds ended log s (Front.definition d) =
     sound-bounds ended log 24 _ _ (omega arith) (omega (arith, answer-length (ascii "D ") (log .count + 1) (definedBy (log .engine) d .answer)))
 item-bounds ended log s (Front.removal k) =
     sound-bounds ended log 4 _ _ (omega arith) (omega (arith, answer-length (ascii "R ") (log .count + 1) (removedBy (log .engine) k .answer)))
-item-bounds ended log s (Front.frame i x n) = frame-bounds ended log (frameAt i x n s)
+item-bounds ended log s (Front.frame i x y n) = frame-bounds ended log (frameAt i x y n s)
 
 step-bounds : (ended : Bool) (log : Log) (s : List ℕ) → Bounds ended log (taken (itemOf (log .count) s)) (stepOf ended log s)
 unfolding stepOf

@@ -104,8 +104,8 @@ frameStep log f =
 abbrev pub dataOf : List ℕ → List ℕ
 dataOf s = take 8 (drop 8 s)
 
-abbrev pub frameAt : ℕ → Bool → ℕ → List ℕ → CanFrame
-frameAt id extended n s = record { id = id; «is_extended» = extended; length = n; «data» = dataOf s }
+abbrev pub frameAt : ℕ → Bool → Bool → ℕ → List ℕ → CanFrame
+frameAt id extended remote n s = record { id = id; «is_extended» = extended; «is_remote» = remote; length = n; «data» = dataOf s }
 
 -- what stands at the front of the bytes s does this; `ended` says whether the input ends with them
 abbrev pub itemStep : Bool → Log → List ℕ → Front → Move
@@ -114,7 +114,7 @@ itemStep ended log s (Front.fault k) = stopStep log k
 itemStep ended log s (Front.settings a t) = settledStep log (createdBy a t .engine) (createdBy a t .answer)
 itemStep ended log s (Front.definition d) = calledStep log (ascii "D ") 24 (definedBy (log .engine) d)
 itemStep ended log s (Front.removal k) = calledStep log (ascii "R ") 4 (removedBy (log .engine) k)
-itemStep ended log s (Front.frame i x n) = frameStep log (frameAt i x n s)
+itemStep ended log s (Front.frame i x y n) = frameStep log (frameAt i x y n s)
 
 -- the same of a record for the table: neither the bytes behind it nor the end of the input matter
 abbrev pub requestStep : Log → Front → Move

@@ -1,4 +1,4 @@
--- Document 01, "The log": the record at the front of the bytes, and what its bytes say.
+-- Document 01, "The log", as amended by document 02, T-01: the record at the front of the bytes, and what its bytes say.
 -- Assumes nothing.
 use Prim.Native.Nat.{ℕ, _+_, _*_, _/_, _%_}
 use mathlib.Core.Bool.{Bool, false, cond, not, _&&_, _||_}
@@ -19,11 +19,11 @@ pub data Front : Type 0 where
   incomplete : Front
   -- the log stops, with this number
   fault : ℕ → Front
-  -- a record: alpha and threshold; a definition; a slot; a frame's identifier, whether that is extended, and its length
+  -- a record: alpha and threshold; a definition; a slot; a frame's identifier, whether that is extended, whether the frame is remote, and its length
   settings : Float → Float → Front
   definition : SignalDefinition → Front
   removal : ℕ → Front
-  frame : ℕ → Bool → ℕ → Front
+  frame : ℕ → Bool → Bool → ℕ → Front
 
 -- what each case of `Item` means
 abbrev pub requestMeans : Request → Front
@@ -34,7 +34,7 @@ requestMeans (Request.Remove slot) = removal slot
 abbrev pub itemMeans : Item → Front
 itemMeans Item.Wait = incomplete
 itemMeans (Item.Call q) = requestMeans q
-itemMeans (Item.Frame id extended n) = frame id extended n
+itemMeans (Item.Frame id extended remote n) = frame id extended remote n
 itemMeans (Item.Stop k) = fault k
 
 -- ---- the mark: A5 50, A5 44, A5 52 or A5 46
@@ -106,11 +106,12 @@ defineOf s = cond (badFlags (getD s 6 0) (le16 s 22)) (fault 13) (definition (de
 unfoldable pub removeOf : List ℕ → Front
 removeOf s = removal (le16 s 2)
 
--- ---- a frame: flags, of which bit 0 is extended; length, at most 15; identifier. Its eight data bytes follow
+-- ---- a frame: flags, of which bit 0 is extended, bit 1 remote (T-01) and none above defined; length, at most 15, of a remote frame too; identifier.
+-- Its eight data bytes follow
 unfoldable pub frameOf : List ℕ → Front
 frameOf s =
-    cond (leb 2 (getD s 2 0)) (fault 13)
-    (cond (ltb 15 (getD s 3 0)) (fault 14) (frame (le32 s 4) (eqb (getD s 2 0) 1) (getD s 3 0)))
+    cond (leb 4 (getD s 2 0)) (fault 13)
+    (cond (ltb 15 (getD s 3 0)) (fault 14) (frame (le32 s 4) (eqb (getD s 2 0 % 2) 1) (flag 2 (getD s 2 0)) (getD s 3 0)))
 
 -- ---- the record that a mark is the mark of, s being its bytes
 abbrev pub recordOf : List ℕ → Mark → Front

@@ -29,8 +29,8 @@ pub enum Item {
     // the bytes at hand are none, or a part of a record
     Wait,
     Call(Request),
-    // a frame's identifier, type and length: its eight data bytes stand at 8
-    Frame(u32, bool, u8),
+    // a frame's identifier, whether that is extended, whether the frame is remote, and its length: its eight data bytes stand at 8
+    Frame(u32, bool, bool, u8),
     // the log stops, with this number
     Stop(u8),
 }
@@ -176,13 +176,13 @@ fn frame(s: &[u8]) -> Item
 {
     let flags = s[2];
     let length = s[3];
-    if flags >= 2 {
+    if flags >= 4 {
         return Item::Stop(13);
     }
     if length > 15 {
         return Item::Stop(14);
     }
-    Item::Frame(u32_at(s, 4), flags == 1, length)
+    Item::Frame(u32_at(s, 4), flags % 2 == 1, flags / 2 % 2 == 1, length)
 }
 
 // The record whose mark is k and whose bytes are s.

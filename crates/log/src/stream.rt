@@ -81,14 +81,15 @@ fn sound(log: Log, engine: SignalIdsEngine, used: usize, end: usize) -> Step
 }
 
 // The frame whose header was read at the front of s: its data bytes stand behind.
-fn frame_of(id: u32, is_extended: bool, len: u8, s: &[u8]) -> CanFrame
+fn frame_of(id: u32, is_extended: bool, is_remote: bool, len: u8, s: &[u8]) -> CanFrame
     requires { ⌜ 16 ≤ length (now s) ⌝ }
-    ensures { λ r. ⌜ r ≡ frameAt id «is_extended» len (now (s .entry)) ⌝ }
+    ensures { λ r. ⌜ r ≡ frameAt id «is_extended» «is_remote» len (now (s .entry)) ⌝ }
 {
     let data = [s[8], s[9], s[10], s[11], s[12], s[13], s[14], s[15]];
     CanFrame {
         id,
         is_extended,
+        is_remote,
         length: len,
         data,
     }
@@ -211,8 +212,8 @@ pub fn advance(log: Log, s: &[u8], ended: bool, out: &mut [u8]) -> Step
                 engine = next.engine;
                 count = next.count;
             }
-            Item::Frame(id, is_extended, length) => {
-                let frame = frame_of(id, is_extended, length, &s[used..]);
+            Item::Frame(id, is_extended, is_remote, length) => {
+                let frame = frame_of(id, is_extended, is_remote, length, &s[used..]);
                 let done = process_frame(engine, frame);
                 engine = done.engine;
                 let result = done.result;

@@ -110,16 +110,17 @@ fn eight(data: &[u8]) -> [u8; 8] {
     d
 }
 
-// `f`: a frame.
+// `f`: a frame, its flags as those of a log's record.
 pub fn frame(e: SignalIdsEngine, s: &[u8], data: &mut [u8], out: &mut [u8], at: usize) -> Told {
     let id = number(s, 2);
-    let extended = number(s, id.next);
-    let length = number(s, extended.next);
+    let flags = number(s, id.next);
+    let length = number(s, flags.next);
     let n = bytes(s, length.next, data);
     let d = eight(&data[..n]);
     let f = CanFrame {
         id: low32(id.value),
-        is_extended: extended.value != 0,
+        is_extended: flags.value % 2 == 1,
+        is_remote: flags.value / 2 % 2 == 1,
         length: low8(length.value),
         data: d,
     };

@@ -1,4 +1,4 @@
-//! The log of document 01 over the unchanged Rust.
+//! The log of document 01, as amended by document 02, T-01, over the unchanged Rust.
 
 use crate::{float, refusal};
 use std::io::{Read, Write};
@@ -16,6 +16,7 @@ struct Log<R: Read, W: Write> {
     out: W,
     engine: Option<Box<SignalIdsEngine>>,
     sound: u32,
+    remote: u64,
 }
 
 fn u16_at(b: &[u8], i: usize) -> u16 {
@@ -103,14 +104,15 @@ impl<R: Read, W: Write> Log<R, W> {
     }
 
     fn frame(&mut self, b: &[u8]) -> Next {
-        if b[0] > 1 {
+        if b[0] & !0b11 != 0 {
             return Next::Stop(13);
         }
         if b[1] > 15 {
             return Next::Stop(14);
         }
-        let mut frame = CanFrame { id: u32_at(b, 2), is_extended: b[0] == 1, length: b[1], data: [0; 8] };
+        let mut frame = CanFrame { id: u32_at(b, 2), is_extended: b[0] & 1 != 0, is_remote: b[0] & 2 != 0, length: b[1], data: [0; 8] };
         frame.data.copy_from_slice(&b[6..14]);
+        self.remote += frame.is_remote as u64;
         let result = self.engine.as_mut().expect("settings came first").process_frame(&frame);
         for a in &result.anomalies[..result.anomaly_count as usize] {
             anomaly_line(&mut self.out, self.sound + 1, a.signal_index, a.z_score, a.physical_value);
@@ -166,7 +168,9 @@ impl<R: Read, W: Write> Log<R, W> {
     }
 }
 
-/// Prints all that the log program prints for an input.
-pub fn run(input: impl Read, out: impl Write) {
-    Log { input, out, engine: None, sound: 0 }.run();
+/// Prints all that the log program prints for an input, and answers how many remote frames were among its sound records.
+pub fn run(input: impl Read, out: impl Write) -> u64 {
+    let mut log = Log { input, out, engine: None, sound: 0, remote: 0 };
+    log.run();
+    log.remote
 }

@@ -399,8 +399,49 @@ fn frame(out: &mut String, d: &mut Dice, ids: &[u64]) {
         let id = if d.one_in(6) { id + 0x800 * d.below(4) } else { id };
         let id = if d.one_in(6) { id + (d.below(8) << 29) } else { id };
         let length = if d.one_in(4) { d.of(&[0, 1, 2, 3, 4, 5, 6, 7, 9, 12, 15, 255]) } else { 8 };
-        let _ = writeln!(out, "f {:X} {} {length:X} {}", id & 0xFFFF_FFFF, d.below(2), hex(&data));
+        let _ = writeln!(out, "f {:X} {} {length:X} {}", id & 0xFFFF_FFFF, frame_flags(d), hex(&data));
     }
+}
+
+/// The flags of a frame: extended half the time, and remote once in eight.
+fn frame_flags(d: &mut Dice) -> u64 {
+    match d.below(16) {
+        14 => 2,
+        15 => 3,
+        other => other % 2,
+    }
+}
+
+/// Remote frames with each of the lengths, of both types, each behind a frame that is not remote. A table has the same for both types: a multiplexor, a
+/// signal without a condition, and one at each of two numbers of the multiplexor, both of which stand in the remote frames' bytes.
+pub fn remotes(out: &mut String, lengths: &[u64]) {
+    out.push_str("e 3F000000 40400000\n");
+    for extended in 0..2 {
+        for condition in [0, 0x10000, 0x10001] {
+            let _ = writeln!(out, "d 100 {extended} 8 8 0 3F800000 0 0 0 0 {condition:X}");
+        }
+        let _ = writeln!(out, "d 100 {extended} 0 8 0 3F800000 0 0 0 1 0");
+    }
+    for length in lengths {
+        for flags in 0..2 {
+            let number = length % 2;
+            let _ = writeln!(out, "f 100 {flags} 8 {}\nf 100 {} {length:X} {}", hex(&[number as u8; 8]), flags + 2, hex(&[1 - number as u8, 0xFF, 0, 0, 0, 0, 0, 0]));
+        }
+    }
+    out.push_str("f 100 0 8 00FF000000000000\nf 100 1 8 01FF000000000000\ns\n");
+}
+
+/// Short logs that end in a frame with flags and a length of every kind.
+pub fn flagged_logs() -> Vec<Vec<u8>> {
+    let mut logs = Vec::new();
+    for flags in (0..=8).chain([15, 16, 32, 64, 128, 253, 254, 255]) {
+        for length in [0, 1, 8, 9, 15, 16, 255] {
+            let mut log = vec![0xA5, 0x50, 0, 0, 0, 0x3F, 0, 0, 0x40, 0x40];
+            log.extend([0xA5, 0x46, flags, length, 0, 1, 0, 0, 1, 2, 3, 4, 5, 6, 7, 8]);
+            logs.push(log);
+        }
+    }
+    logs
 }
 
 /// More than eight anomalies in a frame, and one definition at each place of a full table.
@@ -502,7 +543,7 @@ fn push_definition(log: &mut Vec<u8>, d: &mut Dice, ids: &[u64], wild: bool) {
 fn push_frame(log: &mut Vec<u8>, d: &mut Dice, ids: &[u64]) {
     let id = if d.one_in(8) { d.next() } else { d.of(ids) };
     let quiet = !d.one_in(12);
-    log.extend([0xA5, 0x46, d.below(2) as u8, if d.one_in(6) { d.below(16) as u8 } else { 8 }]);
+    log.extend([0xA5, 0x46, frame_flags(d) as u8, if d.one_in(6) { d.below(16) as u8 } else { 8 }]);
     log.extend((id as u32).to_le_bytes());
     for _ in 0..8 {
         log.push(if quiet { d.below(2) as u8 } else { d.next() as u8 });

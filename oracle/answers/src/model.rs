@@ -1,6 +1,6 @@
-//! A plain model, written from document 01, of what the Rust has no counterpart for: the writer, the case of a detector's answer, the
-//! outcome of each definition that applies to a frame, and a line of the log. Single extractions and detector steps are the Rust's, and the text of a
-//! line is that of the log program over the Rust.
+//! A plain model, written from document 01 as amended by document 02, T-01, of what the Rust has no counterpart for: the writer, the case of a detector's
+//! answer, the outcome of each definition that applies to a frame, and a line of the log. Single extractions and detector steps are the Rust's, and the text
+//! of a line is that of the log program over the Rust.
 
 use crate::{bytes, float, framelog, Fields};
 use vs_anomaly::{look, EwmaDetector};
@@ -168,6 +168,15 @@ impl Engine {
     }
 }
 
+/// The bytes that a frame carries: as many as its length says, and of a remote frame nothing at all.
+fn sent(flags: u64, length: usize, mut data: Vec<u8>) -> Vec<u8> {
+    data.truncate(length);
+    if matches!(flags % 4, 2 | 3) {
+        data.clear();
+    }
+    data
+}
+
 /// The detector and the engine that a script acts on.
 #[derive(Default)]
 pub struct Machine {
@@ -223,9 +232,11 @@ impl Machine {
                 }
             }
             "f" => {
-                let (id, extended, length, data) = (f.number() as u32, f.number() != 0, f.number() as usize, f.bytes());
+                let (id, flags, length, data) = (f.number() as u32, f.number(), f.number() as usize, f.bytes());
+                let extended = flags % 2 == 1;
                 let id = id % if extended { 1 << 29 } else { 1 << 11 };
-                return Some(self.engine.as_mut()?.outcomes(id, extended, &data, length.min(8)));
+                let sent = sent(flags, length, data);
+                return Some(self.engine.as_mut()?.outcomes(id, extended, &sent, sent.len()));
             }
             "g" => {
                 let (id, n, data) = (f.number() as u32, f.number() as usize, f.bytes());

@@ -83,8 +83,8 @@ impl Machine {
                 format!("y {:08X}", e.next_slot())
             }
             "f" => {
-                let (id, extended, length, data) = (f.number() as u32, f.number() != 0, f.number() as u8, f.bytes());
-                let mut frame = CanFrame { id, is_extended: extended, length, data: [0; 8] };
+                let (id, flags, length, data) = (f.number() as u32, f.number(), f.number() as u8, f.bytes());
+                let mut frame = CanFrame { id, is_extended: flags & 1 != 0, is_remote: flags & 2 != 0, length, data: [0; 8] };
                 frame.data.copy_from_slice(&data);
                 listed("f", &e.process_frame(&frame))
             }

@@ -7,6 +7,8 @@ pub struct CanFrame {
     pub id: u32,
     /// Whether the identifier has 29 bits.
     pub is_extended: bool,
+    /// Whether the frame asks for data and carries none.
+    pub is_remote: bool,
     /// The length field.
     pub length: u8,
     /// The data bytes.
@@ -14,8 +16,11 @@ pub struct CanFrame {
 }
 
 impl CanFrame {
-    /// The number of data bytes that count: the length field, at most 8.
+    /// The number of data bytes that count: the length field, at most 8, and none of a remote frame.
     pub fn payload_len(&self) -> usize {
-        (self.length as usize).min(8)
+        match self {
+            CanFrame { is_remote: true, .. } => 0,
+            CanFrame { length, .. } => (*length as usize).min(8),
+        }
     }
 }

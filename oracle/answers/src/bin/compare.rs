@@ -7,8 +7,8 @@ use std::path::{Path, PathBuf};
 use std::process::{exit, Command, Stdio};
 use std::time::{Duration, Instant};
 
-/// What a run is asked for. `at_least` is how many calls, logs and keys alone it has to have compared at its end; `emulator` are the words
-/// before a program, where the machine can't run one by itself.
+/// What a run is asked for. `at_least` is how many calls, logs, keys alone, and remote frames both in calls and in logs it has to have compared at its
+/// end; `emulator` are the words before a program, where the machine can't run one by itself.
 #[derive(Default)]
 struct Asked {
     seconds: Option<u64>,
@@ -17,11 +17,11 @@ struct Asked {
     every: usize,
     pack: Option<PathBuf>,
     seed: u64,
-    at_least: [u64; 3],
+    at_least: [u64; 4],
     emulator: Vec<String>,
 }
 
-const USAGE: &str = "usage: compare [--seconds N] [--cases N] [--logs N [--every N] [--pack FILE]] [--seed N] [--at-least CALLS LOGS KEYS] [--emulator WORDS]";
+const USAGE: &str = "usage: compare [--seconds N] [--cases N] [--logs N [--every N] [--pack FILE]] [--seed N] [--at-least CALLS LOGS KEYS REMOTE] [--emulator WORDS]";
 
 fn asked(words: &[String]) -> Option<Asked> {
     let mut a = Asked { every: 1, seed: 1, ..Default::default() };
@@ -34,7 +34,7 @@ fn asked(words: &[String]) -> Option<Asked> {
             "--logs" => a.logs = Some(number()?),
             "--every" => a.every = number().filter(|n| *n > 0)? as usize,
             "--seed" => a.seed = number()?,
-            "--at-least" => a.at_least = [number()?, number()?, number()?],
+            "--at-least" => a.at_least = [number()?, number()?, number()?, number()?],
             "--pack" => a.pack = Some(PathBuf::from(words.next()?)),
             "--emulator" => a.emulator = words.next()?.split_whitespace().map(String::from).collect(),
             _ => return None,
@@ -73,10 +73,11 @@ fn answers_of(script: &str) -> String {
     out
 }
 
-fn log_of(log: &[u8]) -> Vec<u8> {
+/// What is printed for a log, and how many of its sound records are remote frames.
+fn log_of(log: &[u8]) -> (Vec<u8>, u64) {
     let mut out = Vec::new();
-    framelog::run(log, &mut out);
-    out
+    let remote = framelog::run(log, &mut out);
+    (out, remote)
 }
 
 /// The least part of the items, by halves and then one by one, for which the test still holds.
@@ -118,12 +119,22 @@ fn logs_in(folder: &Path) -> Vec<PathBuf> {
     logs
 }
 
+/// The flags of a frame's call.
+fn flags(fields: &[&str]) -> u64 {
+    u64::from_str_radix(fields[2], 16).expect("a number")
+}
+
+/// Whether a call is a remote frame.
+fn is_remote(call: &str) -> bool {
+    call.starts_with("f ") && flags(&call.split(' ').collect::<Vec<_>>()) & 2 != 0
+}
+
 /// The key of a frame: its effective identifier and frame type.
 fn key(call: &str) -> Option<(u64, bool)> {
     let fields: Vec<&str> = call.split(' ').collect();
     let id = u64::from_str_radix(fields.get(1)?, 16).ok()?;
     match fields[0] {
-        "f" if fields[2] == "1" => Some((id % (1 << 29), true)),
+        "f" if flags(&fields) & 1 != 0 => Some((id % (1 << 29), true)),
         "f" => Some((id % (1 << 11), false)),
         "g" => Some((id, false)),
         _ => None,
@@ -173,11 +184,14 @@ struct Bench {
     records: u64,
     logs: u64,
     isolated: u64,
+    remote_calls: u64,
+    remote_records: u64,
 }
 
 impl Bench {
     fn script(&mut self, script: &str) {
         self.calls += script.lines().count() as u64;
+        self.remote_calls += script.lines().filter(|l| is_remote(l)).count() as u64;
         let differs = |s: &str| self.replay.output(s.as_bytes(), &self.scratch) != answers_of(s).as_bytes();
         if !differs(script) {
             return;
@@ -194,20 +208,21 @@ impl Bench {
     fn log(&mut self, log: &[u8], records: u64) {
         self.logs += 1;
         self.records += records;
+        let (answer, remote) = log_of(log);
+        self.remote_records += remote;
         if let Some(pack) = &mut self.pack {
-            let answer = log_of(log);
             for part in [&(log.len() as u64).to_le_bytes()[..], &(answer.len() as u64).to_le_bytes()[..], log, &answer] {
                 pack.write_all(part).expect("the pack is written");
             }
             return;
         }
-        let differs = |l: &[u8]| self.framelog.output(l, &self.scratch) != log_of(l);
-        if !differs(log) {
+        if self.framelog.output(log, &self.scratch) == answer {
             return;
         }
+        let differs = |l: &[u8]| self.framelog.output(l, &self.scratch) != log_of(l).0;
         let least = smallest(log.to_vec(), differs);
         println!("DIFFERENT on this log: {}", answers::bytes(&least));
-        println!("the Rust:\n{}", String::from_utf8_lossy(&log_of(&least)));
+        println!("the Rust:\n{}", String::from_utf8_lossy(&log_of(&least).0));
         println!("this:\n{}", String::from_utf8_lossy(&self.framelog.output(&least, &self.scratch)));
         exit(1);
     }
@@ -244,7 +259,11 @@ impl Bench {
         g::every_refusal(&mut out, true);
         g::last_slots(&mut out, true);
         g::crowds(&mut out, &mut d);
+        g::remotes(&mut out, &(0..256).collect::<Vec<_>>());
         self.script(&out);
+        for log in g::flagged_logs() {
+            self.log(&log, 2);
+        }
         let whole = g::log(&mut d, 24);
         for cut in 0..=whole.len() {
             self.log(&whole[..cut], 24);
@@ -308,8 +327,8 @@ impl Bench {
             return;
         }
         println!(
-            "compared {} calls, {} logs of {} records, {} keys alone: no difference ({} s)",
-            self.calls, self.logs, self.records, self.isolated, since.elapsed().as_secs()
+            "compared {} calls ({} remote frames), {} logs of {} records ({} remote frames), {} keys alone: no difference ({} s)",
+            self.calls, self.remote_calls, self.logs, self.records, self.remote_records, self.isolated, since.elapsed().as_secs()
         );
         let _ = std::io::stdout().flush();
     }
@@ -325,7 +344,7 @@ fn main() {
     let scratch = std::env::temp_dir().join(format!("compare-{}", std::process::id()));
     let pack = asked.pack.map(|file| BufWriter::new(File::create(file).expect("the pack is made")));
     let program = |name| Program::new(&asked.emulator, &bin.join(name));
-    let mut b = Bench { replay: program("replay"), framelog: program("framelog"), scratch, pack, calls: 0, records: 0, logs: 0, isolated: 0 };
+    let mut b = Bench { replay: program("replay"), framelog: program("framelog"), scratch, pack, calls: 0, records: 0, logs: 0, isolated: 0, remote_calls: 0, remote_records: 0 };
     let since = Instant::now();
     let mut said = since;
     if let Some(n) = asked.logs {
@@ -357,9 +376,9 @@ fn main() {
     }
     println!("seeds {} to {}", asked.seed, seed.max(asked.seed + 1) - 1);
     let _ = std::fs::remove_file(&b.scratch);
-    let [calls, logs, keys] = asked.at_least;
-    if b.calls < calls || b.logs < logs || b.isolated < keys {
-        println!("FEWER than the {calls} calls, {logs} logs and {keys} keys alone that were asked for");
+    let [calls, logs, keys, remote] = asked.at_least;
+    if b.calls < calls || b.logs < logs || b.isolated < keys || b.remote_calls.min(b.remote_records) < remote {
+        println!("FEWER than the {calls} calls, {logs} logs, {keys} keys alone, and {remote} remote frames in calls and in logs that were asked for");
         exit(1);
     }
 }

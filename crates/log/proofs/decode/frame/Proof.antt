@@ -1,7 +1,13 @@
 -- `log::decode::frame` meets its contract.
 -- Assumes nothing.
-use Rattle.log.specs.Records.{frameOf}
-use borrow.Author.Tests.{le-leb, lt-leb, le-ltb, lt-ltb}
+use mathlib.Core.Path.{sym, ap, _∙_}
+use Prim.Native.Nat.{ℕ, _%_}
+use native.Mathlib.Omega.{arith}
+use lib.Dec.{eqb}
+use lib.ListN.{getD}
+use denote.Ref.{now}
+use Rattle.log.specs.Records.{Front, flag}
+use Rattle.log.proofs.Front.{undefined-flag, long-frame, defined-flags}
 use borrow.Author.Needs.{needs}
 use Rattle.log.proofs.decode.frame.Statement.{statement}
 use Rattle.log.proofs.decode.frame.Tie as tie
@@ -13,19 +19,19 @@ shared-slice-read-length : tie.Need-shared-slice-read-length
 shared-slice-read-length c = search needs
 
 returns : tie.Need-returns
-unfolding frameOf
-returns c = simp (le-leb _ _ (c .if1 .taken))
+returns c = sym (undefined-flag (now (c .before .before .before .before .args .s)) (omega (arith, c .if1 .taken)))
 
 returns-2 : tie.Need-returns-2
-unfolding frameOf
-returns-2 c = simp (lt-leb _ _ (c .before .if1 .left), lt-ltb _ _ (c .if2 .taken))
+returns-2 c = sym (long-frame (now (c .before .before .before .before .before .args .s)) (omega (arith, c .before .if1 .left)) (omega (arith, c .if2 .taken)))
 
 u32-at-requires : tie.Need-u32-at-requires
 u32-at-requires c κs = search needs
 
 returns-3 : tie.Need-returns-3
-unfolding frameOf
-returns-3 c = simp (lt-leb _ _ (c .before .before .if1 .left), le-ltb _ _ (c .before .if2 .left), c .u32-at .ensures)
+returns-3 c =
+    let s = now (c .before .before .before .before .before .before .args .s) in
+    ap (λ (i : ℕ). Front.frame i (eqb (getD s 2 0 % 2) 1) (flag 2 (getD s 2 0)) (getD s 3 0)) (c .u32-at .ensures)
+    ∙ sym (defined-flags s (omega (arith, c .before .before .if1 .left)) (omega (arith, c .before .if2 .left)))
 
 pub frame-spec : {M : Type 1} → statement M
 frame-spec =

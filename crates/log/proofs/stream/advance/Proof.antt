@@ -124,7 +124,7 @@ part-frame-of-end c = omega arith
 frame-of-requires : tie.Need-frame-of-requires Inv-loop μ-loop
 frame-of-requires c κs =
     let here = c .before .before .before .before in
-    frame-bytes (here .before .before .before .loop .inv) (here .before .before .loop-test .taken) _ (here .item-at-front .ensures) _ _ _ (c .before .before .id .given .1)
+    frame-bytes (here .before .before .before .loop .inv) (here .before .before .loop-test .taken) _ (here .item-at-front .ensures) _ _ _ _ (c .before .before .id .given .1)
 
 process-frame-requires : tie.Need-process-frame-requires Inv-loop μ-loop
 process-frame-requires c κs = search needs
@@ -132,27 +132,27 @@ process-frame-requires c κs = search needs
 add-count : tie.Need-add-count Inv-loop μ-loop
 add-count c =
     let here = c .before .before .before .before .before .before .before .before .before in
-    omega (arith, frame-counts (here .before .before .before .loop .inv) (here .before .before .loop-test .taken) _ (here .item-at-front .ensures) _ _ _ (c .before .before .before .before .before .before .before .id .given .1))
+    omega (arith, frame-counts (here .before .before .before .loop .inv) (here .before .before .loop-test .taken) _ (here .item-at-front .ensures) _ _ _ _ (c .before .before .before .before .before .before .before .id .given .1))
 
 add-used-2 : tie.Need-add-used-2 Inv-loop μ-loop
 add-used-2 c =
     let here = c .before .before .before .before .before .before .before .before .before in
-    omega (arith, frame-used (here .before .before .before .loop .inv) (here .before .before .loop-test .taken) _ (here .item-at-front .ensures) _ _ _ (c .before .before .before .before .before .before .before .id .given .1), c .before .before .before .before .before .before .before .before .before .before .before .before .before .before .before .before .good .1 .0 .0)
+    omega (arith, frame-used (here .before .before .before .loop .inv) (here .before .before .loop-test .taken) _ (here .item-at-front .ensures) _ _ _ _ (c .before .before .before .before .before .before .before .id .given .1), c .before .before .before .before .before .before .before .before .before .before .before .before .before .before .before .before .good .1 .0 .0)
 
 put-anomalies-requires : tie.Need-put-anomalies-requires Inv-loop μ-loop
 put-anomalies-requires c κs =
     let here = c .before .before .before .before .before .before .before .before .before .before in
-    frame-room (here .before .before .before .loop .inv) (here .before .before .loop-test .taken) _ (here .item-at-front .ensures) _ _ _ (c .before .before .before .before .before .before .before .before .id .given .1) (c .before .before .before .before .before .frame-of .ensures) (c .before .before .before .before .process-frame .result) (by-frame (c .before .before .before .before .process-frame .result) _ _ (c .before .before .before .before .process-frame .ensures))
+    frame-room (here .before .before .before .loop .inv) (here .before .before .loop-test .taken) _ (here .item-at-front .ensures) _ _ _ _ (c .before .before .before .before .before .before .before .before .id .given .1) (c .before .before .before .before .before .frame-of .ensures) (c .before .before .before .before .process-frame .result) (by-frame (c .before .before .before .before .process-frame .result) _ _ (c .before .before .before .before .process-frame .ensures))
 
 loop-less-2 : tie.Need-loop-less-2 Inv-loop μ-loop
 loop-less-2 c =
     let here = c .before .before .before .before .before .before .before .before .before .before .before .before .before in
-    frame-less (here .before .before .before .loop .inv) (here .before .before .loop-test .taken) _ (here .item-at-front .ensures) _ _ _ (c .before .before .before .before .before .before .before .before .before .before .before .id .given .1)
+    frame-less (here .before .before .before .loop .inv) (here .before .before .loop-test .taken) _ (here .item-at-front .ensures) _ _ _ _ (c .before .before .before .before .before .before .before .before .before .before .before .id .given .1)
 
 loop-again-2 : tie.Need-loop-again-2 Inv-loop μ-loop
 loop-again-2 c =
     let here = c .before .before .before .before .before .before .before .before .before .before .before .before .before in
-    frame-more (here .before .before .before .loop .inv) (here .before .before .loop-test .taken) _ (here .item-at-front .ensures) _ _ _ (c .before .before .before .before .before .before .before .before .before .before .before .id .given .1) (c .before .before .before .before .before .before .before .before .frame-of .ensures) (c .before .before .before .before .before .before .before .process-frame .result) (by-frame (c .before .before .before .before .before .before .before .process-frame .result) _ _ (c .before .before .before .before .before .before .before .process-frame .ensures)) (c .before .before .put-anomalies .ensures)
+    frame-more (here .before .before .before .loop .inv) (here .before .before .loop-test .taken) _ (here .item-at-front .ensures) _ _ _ _ (c .before .before .before .before .before .before .before .before .before .before .before .id .given .1) (c .before .before .before .before .before .before .before .before .frame-of .ensures) (c .before .before .before .before .before .before .before .process-frame .result) (by-frame (c .before .before .before .before .before .before .before .process-frame .result) _ _ (c .before .before .before .before .before .before .before .process-frame .ensures)) (c .before .before .put-anomalies .ensures)
 
 answer-requires-2 : tie.Need-answer-requires-2 Inv-loop μ-loop
 answer-requires-2 c κs = search needs

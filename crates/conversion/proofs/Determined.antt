@@ -1,10 +1,12 @@
 -- Two results that a promise of this crate allows are equal, for each public call. Assumes nothing.
 use mathlib.Core.Path.{_≡_, refl, sym, ap, _∙_}
+use mathlib.Core.Bool.{cond}
+use lib.Dec.{eqb}
 use Rattle.bits.proofs.Promise.{Determines}
 use Rattle.bits.proofs.Theorems.{raw-settled}
-use Rattle.conversion.specs.Extract.{extractedMeans}
+use Rattle.conversion.specs.Extract.{Measured, measured, unmeasured, extractedMeans}
 use Rattle.conversion.specs.declared.Extracted.{Extracted}
-use Rattle.conversion.specs.declared.Extracted.the-variants.{Value, Nothing}
+use Rattle.conversion.specs.declared.Extracted.the-variants.{Value, BadLength, Outside, NotFinite}
 use Rattle.conversion.proofs.is_finite.Reads as is-finite
 use Rattle.conversion.proofs.f32_of_bits.Reads as f32-of-bits
 use Rattle.conversion.proofs.bits_of_f32.Reads as bits-of-f32
@@ -15,11 +17,18 @@ use Rattle.conversion.proofs.extract_signal_raw.Reads as extract-signal
 use Rattle.conversion.proofs.extract_signal.Reads as extract-signal
 
 -- the meaning of an answer tells all answers apart
+abbrev extractedFor : Measured → Extracted
+extractedFor (measured v) = Value v
+extractedFor (unmeasured k) = cond (eqb k 1) BadLength (cond (eqb k 16) Outside NotFinite)
+
+same-extracted : (a : Extracted) → extractedFor (extractedMeans a) ≡ a
+same-extracted (Value v) = refl
+same-extracted BadLength = refl
+same-extracted Outside = refl
+same-extracted NotFinite = refl
+
 pub extracted-settled : (a b : Extracted) → extractedMeans a ≡ extractedMeans b → a ≡ b
-extracted-settled (Value v) (Value w) h = let e : v ≡ w = cc in ap Value e
-extracted-settled Nothing Nothing h = refl
-extracted-settled (Value v) Nothing h = cc
-extracted-settled Nothing (Value w) h = cc
+extracted-settled a b h = sym (same-extracted a) ∙ ap extractedFor h ∙ same-extracted b
 
 pub is-finite-determined : Determines is-finite.Learnt
 is-finite-determined κs a r q s t p p′ = p ∙ sym p′

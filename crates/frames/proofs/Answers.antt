@@ -1,4 +1,4 @@
--- The answer as a loop fills it: one report more, and its anomaly where there is one and room for it.
+-- The answer as a loop fills it: one report more, counted where it has no value, and its anomaly where there is one and room for it.
 -- Assumes nothing.
 use mathlib.Core.Path.{_≡_, refl, sym, ap, _∙_}
 use mathlib.Core.Bool.{Bool, true, false, cond}
@@ -7,30 +7,39 @@ use Prim.Native.Nat.{ℕ, _+_, _<_}
 use native.Mathlib.Omega.{arith}
 use lib.Dec.{ltb}
 use borrow.Author.Tests.{lt-ltb, ltb-true, ltb-false}
-use lib.ListN.{length, take, set, replicate}
-use Rattle.table.specs.Rows.{pad}
+use lib.ListN.{length, take, set, replicate, length-append}
+use Rattle.table.specs.Rows.{pad, keep}
 use Rattle.detector.proofs.Told.{chosen}
-use Rattle.table.proofs.Laws.{pad-nil, pushed, take-room, take-full, flat-append, flat-one}
+use Rattle.table.proofs.Laws.{pad-nil, pushed, take-room, take-full, flat-append, flat-one, keep-append}
 use Rattle.frames.specs.declared.Outcome.{Outcome}
 use Rattle.frames.specs.declared.Report.{Report}
 use Rattle.frames.specs.declared.SignalAnomaly.{SignalAnomaly}
+use Rattle.frames.specs.declared.Counts.{Counts}
 use Rattle.frames.specs.declared.SignalIdsResult.{SignalIdsResult}
-use Rattle.frames.specs.Frames.{outcomeMeans, Reported, reportMeans, anomaly, flagged, listed, blankAnomaly, blankReport, Answered, resultMeans, answered}
+use Rattle.frames.specs.Frames.{Finding, outcomeMeans, Reported, reportMeans, anomaly, flagged, listed, howMany, isPassedOver, noValueBy, countsOf, blankAnomaly, blankReport, Answered, resultMeans, answered}
+use Rattle.frames.specs.Parts.{oneMore}
 use Rattle.frames.proofs.Lists.{map-set, map-replicate}
 
-abbrev pub resultOf : List SignalAnomaly → ℕ → List Report → ℕ → SignalIdsResult
-resultOf anomalies c reports k = record { anomalies = anomalies; «anomaly_count» = c; reports = reports; «report_count» = k }
+abbrev pub resultOf : List SignalAnomaly → ℕ → List Report → ℕ → Counts → SignalIdsResult
+resultOf anomalies c reports k n = record { anomalies = anomalies; «anomaly_count» = c; reports = reports; «report_count» = k; counts = n }
 
-abbrev answerOf : List SignalAnomaly → ℕ → List Reported → ℕ → Answered
-answerOf anomalies c reports k = record { anomalies = anomalies; «anomaly_count» = c; reports = reports; «report_count» = k }
+abbrev answerOf : List SignalAnomaly → ℕ → List Reported → ℕ → Counts → Answered
+answerOf anomalies c reports k n = record { anomalies = anomalies; «anomaly_count» = c; reports = reports; «report_count» = k; counts = n }
 
-four : {a b : List SignalAnomaly} {c d : ℕ} {r s : List Reported} {j k : ℕ} → a ≡ b → c ≡ d → r ≡ s → j ≡ k → answerOf a c r j ≡ answerOf b d s k
-four p q t u = cc
+five : {a b : List SignalAnomaly} {c d : ℕ} {r s : List Reported} {j k : ℕ} {m n : Counts}
+    → a ≡ b
+    → c ≡ d
+    → r ≡ s
+    → j ≡ k
+    → m ≡ n
+    → answerOf a c r j m ≡ answerOf b d s k n
+five p q t u v = cc
 
-pub blank-is : (a : SignalAnomaly) (r : Report) → a ≡ blankAnomaly → reportMeans r ≡ blankReport → resultMeans (resultOf (replicate 8 a) 0 (replicate 64 r) 0) ≡ answered []
+pub blank-is : (a : SignalAnomaly) (r : Report) → a ≡ blankAnomaly → reportMeans r ≡ blankReport
+    → resultMeans (resultOf (replicate 8 a) 0 (replicate 64 r) 0 (countsOf [])) ≡ answered []
 unfolding flatMap
 blank-is a r p q =
-    four (ap (replicate 8) p ∙ pad-nil 8 blankAnomaly) refl (map-replicate reportMeans 64 r ∙ ap (replicate 64) q ∙ pad-nil 64 blankReport) refl
+    five (ap (replicate 8) p ∙ pad-nil 8 blankAnomaly) refl (map-replicate reportMeans 64 r ∙ ap (replicate 64) q ∙ pad-nil 64 blankReport) refl refl
 
 -- where there is room, a report's anomaly is its outcome's
 pub raises : (r : Report) (k : ℕ) {o : Outcome} → k < 8 → r .outcome ≡ o → cond (ltb k 8) (flagged (reportMeans r)) [] ≡ anomaly (r .slot) (outcomeMeans o)
@@ -67,6 +76,27 @@ listed-none l r h = go (ltb (length (listed l)) 8) refl
         ap (take 8) (flagged-more l r ∙ ap (λ (z : List SignalAnomaly). flatMap flagged l ++ z) none ∙ append-nil (flatMap flagged l))
     go false e = ap (take 8) (flagged-more l r) ∙ take-full 8 (flatMap flagged l) (flagged r) (ltb-false (length (listed l)) 8 e)
 
+-- ---- one report more is counted
+how-many-more : (p : Finding → Bool) (l : List Reported) (r : Reported) → cond (p (r .finding)) (howMany p l + 1) (howMany p l) ≡ howMany p (l ++ (r ∷ []))
+how-many-more p l r =
+    at (p (r .finding))
+    ∙ sym (ap length (keep-append (λ (q : Reported). p (q .finding)) l (r ∷ [])) ∙ length-append (keep (λ (q : Reported). p (q .finding)) l) (keep (λ (q : Reported). p (q .finding)) (r ∷ [])))
+  where
+    at : (b : Bool) → cond b (howMany p l + 1) (howMany p l) ≡ howMany p l + length (cond b (r ∷ []) [])
+    at true = refl
+    at false = omega arith
+
+pub counts-more : (l : List Reported) (r : Reported) → oneMore (countsOf l) (r .finding) ≡ countsOf (l ++ (r ∷ []))
+counts-more l r =
+    let a = how-many-more isPassedOver l r in
+    let b = how-many-more (noValueBy 16) l r in
+    let c = how-many-more (noValueBy 17) l r in
+    three a b c
+  where
+    three : {a b c d e f : ℕ} → a ≡ b → c ≡ d → e ≡ f
+        → _≡_ {A = Counts} (record { «condition_not_met» = a; outside = c; «not_finite» = e }) (record { «condition_not_met» = b; outside = d; «not_finite» = f })
+    three p q t = cc
+
 -- ---- one report more
 module _ (o : SignalIdsResult) (l : List Reported) (r : Report) (is : resultMeans o ≡ answered l) (few : length l < 64) where
   abbrev told : Reported
@@ -83,24 +113,30 @@ module _ (o : SignalIdsResult) (l : List Reported) (r : Report) (is : resultMean
       (omega (arith, ap (λ (q : Answered). q .«report_count») is))
       refl
 
-  pub one-quiet : {m : List Reported}
-      → m ≡ l ++ (told ∷ [])
-      → [] ≡ cond (ltb (o .«anomaly_count») 8) (flagged told) []
-      → resultMeans (resultOf (o .anomalies) (o .«anomaly_count») (set (o .reports) (o .«report_count») r) (o .«report_count» + 1)) ≡ answered m
-  one-quiet e h =
-      let same : listed (l ++ (told ∷ [])) ≡ listed l = listed-none l told (h ∙ ap (λ (k : ℕ). cond (ltb k 8) (flagged told) []) count-is) in
-      four
-      (ap (λ (q : Answered). q .anomalies) is ∙ ap (pad 8 blankAnomaly) (sym same))
-      (count-is ∙ ap length (sym same))
-      (map-set reportMeans (o .reports) (o .«report_count») r ∙ stored .1)
-      (stored .0)
-      ∙ ap answered (sym e)
+  -- the counts that `counted` answers
+  module _ {n : Counts} (counted : n ≡ oneMore (o .counts) (told .finding)) where
+    counts-are : n ≡ countsOf (l ++ (told ∷ []))
+    counts-are = counted ∙ ap (λ (q : Answered). oneMore (q .counts) (told .finding)) is ∙ counts-more l told
 
-  pub one-listed : {m : List Reported} (a : SignalAnomaly)
-      → m ≡ l ++ (told ∷ [])
-      → (a ∷ []) ≡ cond (ltb (o .«anomaly_count») 8) (flagged told) []
-      → resultMeans (resultOf (set (o .anomalies) (o .«anomaly_count») a) (o .«anomaly_count» + 1) (set (o .reports) (o .«report_count») r) (o .«report_count» + 1)) ≡ answered m
-  one-listed a e h =
-      let more : listed (l ++ (told ∷ [])) ≡ listed l ++ (a ∷ []) = listed-one l told a (h ∙ ap (λ (k : ℕ). cond (ltb k 8) (flagged told) []) count-is) in
-      let put = pushed 8 blankAnomaly (listed l) a (ap (λ (q : Answered). q .anomalies) is) count-is (room (flagged told) h) more in
-      four (put .1) (put .0) (map-set reportMeans (o .reports) (o .«report_count») r ∙ stored .1) (stored .0) ∙ ap answered (sym e)
+    pub one-quiet : {m : List Reported}
+        → m ≡ l ++ (told ∷ [])
+        → [] ≡ cond (ltb (o .«anomaly_count») 8) (flagged told) []
+        → resultMeans (resultOf (o .anomalies) (o .«anomaly_count») (set (o .reports) (o .«report_count») r) (o .«report_count» + 1) n) ≡ answered m
+    one-quiet e h =
+        let same : listed (l ++ (told ∷ [])) ≡ listed l = listed-none l told (h ∙ ap (λ (k : ℕ). cond (ltb k 8) (flagged told) []) count-is) in
+        five
+        (ap (λ (q : Answered). q .anomalies) is ∙ ap (pad 8 blankAnomaly) (sym same))
+        (count-is ∙ ap length (sym same))
+        (map-set reportMeans (o .reports) (o .«report_count») r ∙ stored .1)
+        (stored .0)
+        counts-are
+        ∙ ap answered (sym e)
+
+    pub one-listed : {m : List Reported} (a : SignalAnomaly)
+        → m ≡ l ++ (told ∷ [])
+        → (a ∷ []) ≡ cond (ltb (o .«anomaly_count») 8) (flagged told) []
+        → resultMeans (resultOf (set (o .anomalies) (o .«anomaly_count») a) (o .«anomaly_count» + 1) (set (o .reports) (o .«report_count») r) (o .«report_count» + 1) n) ≡ answered m
+    one-listed a e h =
+        let more : listed (l ++ (told ∷ [])) ≡ listed l ++ (a ∷ []) = listed-one l told a (h ∙ ap (λ (k : ℕ). cond (ltb k 8) (flagged told) []) count-is) in
+        let put = pushed 8 blankAnomaly (listed l) a (ap (λ (q : Answered). q .anomalies) is) count-is (room (flagged told) h) more in
+        five (put .1) (put .0) (map-set reportMeans (o .reports) (o .«report_count») r ∙ stored .1) (stored .0) counts-are ∙ ap answered (sym e)

@@ -13,17 +13,17 @@ use Rattle.frames.proofs.effective_can_id.Reads as effective-can-id
 use Rattle.frames.proofs.process_frame.Reads as process-frame
 use Rattle.frames.proofs.process_raw_frame.Reads as process-raw-frame
 
--- ---- the meaning of an answer tells all answers apart: the five cases of an outcome with their values, a report, a result
+-- ---- the meaning of an answer tells all answers apart: the five cases of an outcome with their values and reasons, a report, a result
 abbrev outcomeFor : Finding → Outcome
 outcomeFor passedOver = PassedOver
-outcomeFor noValue = NoValue
+outcomeFor (noValue r) = NoValue r
 outcomeFor (firstSample v) = First v
 outcomeFor (warmingUp v) = Warming v
 outcomeFor (scored v z flag) = Scored v z flag
 
 same-outcome : (o : Outcome) → outcomeFor (outcomeMeans o) ≡ o
 same-outcome PassedOver = refl
-same-outcome NoValue = refl
+same-outcome (NoValue r) = refl
 same-outcome (First v) = refl
 same-outcome (Warming v) = refl
 same-outcome (Scored v z flag) = refl
@@ -42,11 +42,11 @@ same-reports [] = refl
 same-reports (r ∷ l) = ap (λ (q : Report). q ∷ map reportFor (map reportMeans l)) (same-report r) ∙ ap (λ (m : List Report). r ∷ m) (same-reports l)
 
 abbrev resultFor : Answered → SignalIdsResult
-resultFor a = record { anomalies = a .anomalies; «anomaly_count» = a .«anomaly_count»; reports = map reportFor (a .reports); «report_count» = a .«report_count» }
+resultFor a = record { anomalies = a .anomalies; «anomaly_count» = a .«anomaly_count»; reports = map reportFor (a .reports); «report_count» = a .«report_count»; counts = a .counts }
 
 same-result : (r : SignalIdsResult) → resultFor (resultMeans r) ≡ r
 same-result r =
-    ap (λ (l : List Report). (record { anomalies = r .anomalies; «anomaly_count» = r .«anomaly_count»; reports = l; «report_count» = r .«report_count» })) (same-reports (r .reports))
+    ap (λ (l : List Report). (record { anomalies = r .anomalies; «anomaly_count» = r .«anomaly_count»; reports = l; «report_count» = r .«report_count»; counts = r .counts })) (same-reports (r .reports))
 
 pub result-settled : (a b : SignalIdsResult) → resultMeans a ≡ resultMeans b → a ≡ b
 result-settled a b h = sym (same-result a) ∙ ap resultFor h ∙ same-result b
@@ -63,7 +63,7 @@ processed-settled a b h = sym (same-processed a) ∙ ap processedFor h ∙ same-
 -- and each meaning is one of a result
 outcome-has : (f : Finding) → outcomeMeans (outcomeFor f) ≡ f
 outcome-has passedOver = refl
-outcome-has noValue = refl
+outcome-has (noValue r) = refl
 outcome-has (firstSample v) = refl
 outcome-has (warmingUp v) = refl
 outcome-has (scored v z flag) = refl
@@ -76,7 +76,7 @@ reports-have (r ∷ l) =
 pub result-has : (f : Framed) → resultMeans (processedFor f .result) ≡ f .result
 result-has f =
     let a = f .result in
-    ap (λ (l : List Reported). (record { anomalies = a .anomalies; «anomaly_count» = a .«anomaly_count»; reports = l; «report_count» = a .«report_count» })) (reports-have (a .reports))
+    ap (λ (l : List Reported). (record { anomalies = a .anomalies; «anomaly_count» = a .«anomaly_count»; reports = l; «report_count» = a .«report_count»; counts = a .counts })) (reports-have (a .reports))
 
 pub framed-has : (f : Framed) → processedMeans (processedFor f) ≡ f
 framed-has f = ap (λ (a : Answered). (record { engine = f .engine; result = a })) (result-has f)

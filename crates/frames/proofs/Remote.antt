@@ -8,10 +8,12 @@ use mathlib.Core.Logic.{_⊎_, inl, inr}
 use Prim.Native.Nat.{ℕ, zero, suc, _-_, min}
 use native.Mathlib.Omega.{arith}
 use lib.ListN.{length, take, replicate}
+use lib.Seq.{take-append-seam}
 use contract.Lifetimes.{Lfts}
 use Rattle.bits.specs.Answers.{Answer}
 use Rattle.bits.specs.Answers.Answer.{value, refused}
-use Rattle.bits.proofs.Theorems.{told, refused-by-1}
+use Rattle.bits.specs.Signal.{sized}
+use Rattle.bits.proofs.Theorems.{told, refused-by}
 use Rattle.conversion.specs.declared.SignalDefinition.{SignalDefinition}
 use Rattle.conversion.specs.declared.Condition.{Condition}
 use Rattle.conversion.specs.declared.Condition.the-variants.{Always, Only}
@@ -21,30 +23,34 @@ use Rattle.detector.proofs.Told.{chosen, other}
 use Rattle.table.specs.declared.Entry.{Entry}
 use Rattle.table.specs.declared.SignalIdsEngine.{SignalIdsEngine}
 use Rattle.table.specs.Rows.{pad, keep, every}
-use Rattle.table.specs.Table.{live}
+use Rattle.table.specs.Table.{live, tableOf}
+use Rattle.table.specs.Regular.{Proper, Regular}
 use Rattle.table.proofs.Columns.{Sound}
 use Rattle.table.proofs.Lists.{every-append}
 use Rattle.frames.specs.declared.CanFrame.{CanFrame}
 use Rattle.frames.specs.declared.Multiplexor.{Multiplexor}
 use Rattle.frames.specs.declared.Multiplexor.the-variants.{Missing}
 use Rattle.frames.specs.declared.Processed.{Processed}
-use Rattle.frames.specs.Frames.{payloadOf, effectiveOf, applies, selects, numbered, numberOf, multiplexorOf, meets, Finding, passedOver, noValue, Stepped, sampled, stepOf, nextOf, Reported, underSlot, reportOf, flagged, listed, blankAnomaly, blankReport, resultMeans, answered, moved, Framed, processedMeans, processed, processedFrame}
+use Rattle.frames.specs.declared.Reason.{Reason}
+use Rattle.frames.specs.declared.Reason.the-variants.{BadLength, Outside}
+use Rattle.frames.specs.Frames.{payloadOf, effectiveOf, applies, selects, numbered, numberOf, multiplexorOf, meets, reasonOf, Finding, passedOver, noValue, Stepped, sampled, stepOf, nextOf, Reported, underSlot, reportOf, flagged, listed, blankAnomaly, blankReport, resultMeans, answered, moved, Framed, processedMeans, processed, processedFrame}
 use Rattle.frames.proofs.Steps.{step-over, step-sampled}
 use Rattle.frames.proofs.Theorems.{moved-live}
+use Rattle.frames.proofs.Reasons.{accepted-sized, reported}
 use Rattle.frames.proofs.process_frame.Reads as process-frame
 
 -- ---- in no bytes no signal has a number, and so none has a value
-no-raw : (s : List ℕ) (d : SignalDefinition) → rawSignal s 0 d ≡ refused 1
+no-raw : (s : List ℕ) (d : SignalDefinition) → rawSignal s 0 d ≡ refused (cond (sized (d .«bit_length»)) 16 1)
 unfolding rawSignal
 no-raw s d = at (rawSignal s 0 d) refl
   where
-    at : (a : Answer) → rawSignal s 0 d ≡ a → a ≡ refused 1
+    at : (a : Answer) → rawSignal s 0 d ≡ a → a ≡ refused (cond (sized (d .«bit_length»)) 16 1)
     at (value x) e =
         let t = told s 0 (d .«byte_order») (d .«start_bit») (d .«bit_length») x e in
         absurd (omega (arith, t .some, t .within))
-    at (refused k) e = ap refused (refused-by-1 s 0 (d .«byte_order») (d .«start_bit») (d .«bit_length») k e)
+    at (refused k) e = ap refused (refused-by s 0 (d .«byte_order») (d .«start_bit») (d .«bit_length») k e)
 
-no-value : (s : List ℕ) (d : SignalDefinition) → signalOf s 0 d ≡ unmeasured 1
+no-value : (s : List ℕ) (d : SignalDefinition) → signalOf s 0 d ≡ unmeasured (cond (sized (d .«bit_length»)) 16 1)
 unfolding signalOf
 no-value s d = ap (valueOf d) (no-raw s d)
 
@@ -56,22 +62,33 @@ no-multiplexor id x s (row ∷ rows) = at (no-multiplexor id x s rows) (selects 
     at rest true = ap numbered (no-raw s (row .signal .definition))
     at rest false = rest
 
--- a definition that applies is passed over if it has a condition, whatever that is, and else has no value
-abbrev pub valueless : Condition → Finding
-valueless Always = noValue
-valueless (Only n) = passedOver
+-- a definition that applies is passed over if it has a condition, whatever that is, and else has no value: its bits are outside, whatever its start, and
+-- only one that no call accepts has a bad length
+abbrev pub valuelessAt : ℕ → Condition → Finding
+valuelessAt L Always = noValue (cond (sized L) Outside BadLength)
+valuelessAt L (Only n) = passedOver
 
-no-step : (s : List ℕ) (d : SignalDefinition) (t : EwmaDetector) → stepOf s 0 Missing d t ≡ record { detector = t; finding = valueless (d .condition) }
+abbrev pub valueless : SignalDefinition → Finding
+valueless d = valuelessAt (d .«bit_length») (d .condition)
+
+no-step : (s : List ℕ) (d : SignalDefinition) (t : EwmaDetector) → stepOf s 0 Missing d t ≡ record { detector = t; finding = valueless d }
 unfolding meets
 no-step s d t = at (d .condition) refl
   where
-    at : (c : Condition) → d .condition ≡ c → stepOf s 0 Missing d t ≡ record { detector = t; finding = valueless c }
-    at Always e = step-sampled s 0 Missing d t (ap (λ (c : Condition). meets c Missing) e) ∙ ap (sampled t) (no-value s d)
+    by : (b : Bool) → reasonOf (cond b 16 1) ≡ cond b Outside BadLength
+    by true = refl
+    by false = refl
+
+    at : (c : Condition) → d .condition ≡ c → stepOf s 0 Missing d t ≡ record { detector = t; finding = valuelessAt (d .«bit_length») c }
+    at Always e =
+        step-sampled s 0 Missing d t (ap (λ (c : Condition). meets c Missing) e)
+        ∙ ap (sampled t) (no-value s d)
+        ∙ ap (λ (r : Reason). (record { detector = t; finding = noValue r })) (by (sized (d .«bit_length»)))
     at (Only n) e = step-over s 0 Missing d t (ap (λ (c : Condition). meets c Missing) e)
 
 -- ---- no row moves, and the reports are these
 abbrev pub quiet : Entry → Reported
-quiet row = underSlot (row .signal .slot) (valueless (row .signal .definition .condition))
+quiet row = underSlot (row .signal .slot) (valueless (row .signal .definition))
 
 module _ (id : ℕ) (x : Bool) (s : List ℕ) where
   row-stays : (row : Entry) → nextOf id x s 0 Missing row ≡ row
@@ -108,7 +125,9 @@ unfolding flatMap
 none-flagged [] = refl
 none-flagged (row ∷ rows) = at (none-flagged rows) (row .signal .definition .condition)
   where
-    at : flatMap flagged (map quiet rows) ≡ [] → (c : Condition) → flagged (underSlot (row .signal .slot) (valueless c)) ++ flatMap flagged (map quiet rows) ≡ []
+    at : flatMap flagged (map quiet rows) ≡ []
+        → (c : Condition)
+        → flagged (underSlot (row .signal .slot) (valuelessAt (row .signal .definition .«bit_length») c)) ++ flatMap flagged (map quiet rows) ≡ []
     at rest Always = rest
     at rest (Only n) = rest
 
@@ -116,16 +135,16 @@ pub none-listed : (rows : List Entry) → listed (map quiet rows) ≡ []
 none-listed rows = ap (take 8) (none-flagged rows)
 
 -- ---- T-01's sentences
--- passed over, or no value
+-- passed over, or no value, for whatever reason
 abbrev pub Valueless : Reported → Type 0
-Valueless r = (r .finding ≡ passedOver) ⊎ (r .finding ≡ noValue)
+Valueless r = (r .finding ≡ passedOver) ⊎ ((why : Reason) × (r .finding ≡ noValue why))
 
 each-valueless : (rows : List Entry) → every Valueless (map quiet rows)
 each-valueless [] = tt
 each-valueless (row ∷ rows) = (at (row .signal .definition .condition), each-valueless rows)
   where
-    at : (c : Condition) → (valueless c ≡ passedOver) ⊎ (valueless c ≡ noValue)
-    at Always = inr refl
+    at : (c : Condition) → Valueless (underSlot (row .signal .slot) (valuelessAt (row .signal .definition .«bit_length») c))
+    at Always = inr (_, refl)
     at (Only n) = inl refl
 
 blanks-valueless : (n : ℕ) → every Valueless (replicate n blankReport)
@@ -179,6 +198,34 @@ module _ (f : CanFrame) (remote : f .«is_remote» ≡ true) where
         ap (λ (p : Framed). p .result .«anomaly_count») returned ∙ ap length (none-listed own),
         ap (λ (p : Framed). p .result .anomalies) returned ∙ ap (pad 8 blankAnomaly) (none-listed own),
       )
+
+-- ---- in a table that calls make, every outcome without a value is outside (T-02): the length of a definition is never bad there
+abbrev pub PassedOrOutside : Reported → Type 0
+PassedOrOutside r = (r .finding ≡ passedOver) ⊎ (r .finding ≡ noValue Outside)
+
+each-outside : (id : ℕ) (x : Bool) (next : ℕ) (rows : List Entry) → every (Proper next) rows → every PassedOrOutside (map quiet (keep (applies id x) rows))
+each-outside id x next [] p = tt
+each-outside id x next (row ∷ rows) p = go (each-outside id x next rows (p .1)) (applies id x row)
+  where
+    at : (c : Condition) → PassedOrOutside (underSlot (row .signal .slot) (valuelessAt (row .signal .definition .«bit_length») c))
+    at Always = inr (ap (λ (b : Bool). noValue (cond b Outside BadLength)) (accepted-sized (row .signal .definition) (p .0 .passes)))
+    at (Only n) = inl refl
+
+    go : every PassedOrOutside (map quiet (keep (applies id x) rows))
+        → (b : Bool)
+        → every PassedOrOutside (map quiet (cond b (row ∷ keep (applies id x) rows) (keep (applies id x) rows)))
+    go rest true = (at (row .signal .definition .condition), rest)
+    go rest false = rest
+
+pub remote-outside : (κs : Lfts 0) (e : SignalIdsEngine) → Sound e → Regular (tableOf e) → (f : CanFrame) → f .«is_remote» ≡ true → (r : Processed) (out : _)
+    → process-frame.Learnt κs (e, (f, tt)) r out
+    → every PassedOrOutside (reported r)
+unfolding pad
+remote-outside κs e good g f remote r out promised =
+    let own = keep (applies (effectiveOf f) (f .«is_extended»)) (live e) in
+    subst (every PassedOrOutside)
+    (sym (ap (λ (p : Framed). take (p .result .«report_count») (p .result .reports)) (returned f remote e good κs r out promised) ∙ take-append-seam (map quiet own) _))
+    (each-outside (effectiveOf f) (f .«is_extended») (e .«next_slot») (live e) (g .proper))
 
 -- a frame that is not remote has the payload that document 01 gives it
 pub other-payload : (f : CanFrame) → f .«is_remote» ≡ false → payloadOf f ≡ min (f .length) 8

@@ -43,7 +43,7 @@ one-flag r = at (r .finding)
 
     at : (f : Finding) → length (anomaly (r .slot) f) ≡ cond (isFlagged f) 1 0
     at passedOver = refl
-    at noValue = refl
+    at (noValue r) = refl
     at (firstSample v) = refl
     at (warmingUp v) = refl
     at (scored v z flag) = whether v z flag

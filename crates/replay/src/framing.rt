@@ -10,8 +10,10 @@ use crate::show::put_text;
 use crate::show::put_words;
 use conversion::bits_of_f32;
 use frames::CanFrame;
+use frames::Counts;
 use frames::Outcome;
 use frames::Processed;
+use frames::Reason;
 use frames::Report;
 use frames::SignalAnomaly;
 use frames::SignalIdsResult;
@@ -44,11 +46,20 @@ fn put_anomalies(out: &mut [u8], at: usize, r: SignalIdsResult) -> usize {
     to
 }
 
-// An outcome's case, value, score and flag, 0 where it has none.
+// The number of the refusal that a reason is.
+fn reason_number(r: Reason) -> u64 {
+    match r {
+        Reason::BadLength => 1,
+        Reason::Outside => 16,
+        Reason::NotFinite => 17,
+    }
+}
+
+// An outcome's case, value, score and flag, 0 where it has none. The case of no value is its refusal's number.
 fn outcome_words(slot: u64, o: Outcome) -> [u64; 5] {
     match o {
         Outcome::PassedOver => [slot, 0, 0, 0, 0],
-        Outcome::NoValue => [slot, 1, 0, 0, 0],
+        Outcome::NoValue(reason) => [slot, reason_number(reason), 0, 0, 0],
         Outcome::First(v) => [slot, 2, bits_of_f32(v) as u64, 0, 0],
         Outcome::Warming(v) => [slot, 3, bits_of_f32(v) as u64, 0, 0],
         Outcome::Scored(v, z, flag) => [
@@ -67,10 +78,18 @@ fn put_report(out: &mut [u8], at: usize, r: Report) -> usize {
     put_words(out, at, &words)
 }
 
-// On a line of their own, the outcomes of the definitions that apply.
+// The number of definitions that apply, and the counts of those without a value.
+fn put_counts(out: &mut [u8], at: usize, number: usize, c: Counts) -> usize {
+    let all = put_field(out, at, number as u64, 2);
+    let unmet = put_field(out, all, c.condition_not_met as u64, 2);
+    let outside = put_field(out, unmet, c.outside as u64, 2);
+    put_field(out, outside, c.not_finite as u64, 2)
+}
+
+// On a line of their own, the counts, and the outcomes of the definitions that apply.
 fn put_reports(out: &mut [u8], at: usize, r: SignalIdsResult) -> usize {
     let line = put_text(out, at, b"\np");
-    let mut to = put_field(out, line, r.report_count as u64, 2);
+    let mut to = put_counts(out, line, r.report_count, r.counts);
     let mut i = 0usize;
     while i < 64 {
         if r.report_count <= i {

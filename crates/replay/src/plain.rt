@@ -75,7 +75,9 @@ fn write(s: &[u8], data: &mut [u8], out: &mut [u8], at: usize) -> usize {
 fn put_value(out: &mut [u8], at: usize, value: Extracted) -> usize {
     match value {
         Extracted::Value(v) => put_float(out, at, v),
-        Extracted::Nothing => put_refused(out, at, 1),
+        Extracted::BadLength => put_refused(out, at, 1),
+        Extracted::Outside => put_refused(out, at, 16),
+        Extracted::NotFinite => put_refused(out, at, 17),
     }
 }
 

@@ -68,15 +68,20 @@ pub fn put_words(out: &mut [u8], at: usize, words: &[u64]) -> usize {
     to
 }
 
+// A refusal by its number, which is 1, or 16 or 17 in two hexadecimal digits.
 pub fn put_refused(out: &mut [u8], at: usize, number: u8) -> usize {
     let to = put_text(out, at, b" refused");
-    put_field(out, to, number as u64, 1)
+    if number < 16 {
+        return put_field(out, to, number as u64, 1);
+    }
+    put_field(out, to, number as u64, 2)
 }
 
 pub fn put_raw(out: &mut [u8], at: usize, raw: Raw) -> usize {
     match raw {
         Raw::Bits(x) => put_field(out, at, x, 16),
-        Raw::Nothing => put_refused(out, at, 1),
+        Raw::BadLength => put_refused(out, at, 1),
+        Raw::Outside => put_refused(out, at, 16),
     }
 }
 

@@ -198,7 +198,7 @@ fn definition(d: &mut Dice, ids: &[u64], wild: bool) -> String {
     let (scale, offset) = if wild && d.one_in(4) {
         (any_float(d), any_float(d))
     } else {
-        (d.of(&[0x3F80_0000, 0x3F80_0000, 0x3F00_0000, 0x4120_0000, 0xBF80_0000, 0, 0x3C23_D70A]), d.of(&[0, 0, 0x8000_0000, 0xC220_0000, 0x42C8_0000]))
+        (d.of(&[0x3F80_0000, 0x3F80_0000, 0x3F00_0000, 0x4120_0000, 0xBF80_0000, 0, 0x3C23_D70A, 0x7F7F_FFFF]), d.of(&[0, 0, 0x8000_0000, 0xC220_0000, 0x42C8_0000]))
     };
     let condition = if d.one_in(4) { 0x10000 + d.of(&[0, 1, 2, 3, 255, 65535]) } else { 0 };
     format!("{id:X} {extended:X} {start:X} {length:X} {:X} {scale:X} {offset:X} {:X} {signed:X} {multiplexor:X} {condition:X}", d.below(2), d.next() >> 32)
@@ -429,6 +429,64 @@ pub fn remotes(out: &mut String, lengths: &[u64]) {
         }
     }
     out.push_str("f 100 0 8 00FF000000000000\nf 100 1 8 01FF000000000000\ns\n");
+}
+
+/// Signals with no value for every reason and for several at once: a length of every kind, at a start that is inside or outside, with scales and offsets that
+/// make a value of every kind; `step` leaves some of the scales out.
+fn reasons_of_signals(out: &mut String, step: usize) {
+    let floats = [0x3F80_0000u64, 0, 0x7F7F_FFFF, 0xFF7F_FFFF, 0x7F80_0000, 0xFF80_0000, 0x7FC0_0000, 0xFFC0_0001];
+    for order in 0..2 {
+        for length in [0u64, 1, 8, 9, 64, 65, 255] {
+            for start in [0u64, 7, 8, 56, 63, 64, 65535] {
+                for n in [0u64, 1, 8, 9, u64::MAX] {
+                    for (i, scale) in floats.into_iter().enumerate().skip((n % step as u64) as usize).step_by(step) {
+                        let offset = floats[(i + (start + n % 10) as usize) % floats.len()];
+                        let _ = writeln!(out, "x 0 0 {start:X} {length:X} {order} {scale:X} {offset:X} 0 {} 0 0 {n:X} 02FF02FF02FF02FF", i % 2);
+                    }
+                }
+            }
+        }
+    }
+}
+
+/// A full table of one definition, and frames for which none of them has a value: 64 outcomes of one kind.
+fn full_of_one_reason(out: &mut String, definition: &str) {
+    out.push_str("e 3F000000 40400000\nb 40");
+    for _ in 0..64 {
+        let _ = write!(out, " {definition}");
+    }
+    out.push_str("\nf 100 0 8 0002000000000000\ng 100 8 0002000000000000\nm 20\nf 100 0 8 0002000000000000\n");
+}
+
+/// A full table under one identifier: a multiplexor, and 21 signals each that have a condition, that need all eight bytes, and whose value is finite only
+/// for small bytes. `own` is the multiplexor's own condition.
+fn crowd_of_reasons(out: &mut String, start: u64, own: u64, lengths: &[u64]) {
+    let _ = writeln!(out, "e 3F000000 40400000\nd 100 0 {start:X} 8 0 3F800000 0 0 0 1 {own:X}");
+    for i in 0..21u64 {
+        let _ = writeln!(out, "d 100 0 8 8 0 3F800000 0 0 0 0 {:X}", 0x10000 + i % 3);
+        let _ = writeln!(out, "d 100 0 {:X} 10 {} 3F800000 0 0 0 0 0", 48 + 7 * (i % 2), i % 2);
+        let _ = writeln!(out, "d 100 0 8 8 0 7F7FFFFF 0 0 0 0 {:X}", if i % 7 == 6 { 0x10001 } else { 0 });
+    }
+    for length in lengths {
+        for number in 0..3u8 {
+            for byte in [0u8, 2] {
+                let _ = writeln!(out, "f 100 0 {length:X} {}\ng 100 {length:X} {}", hex(&[number, byte, 0, 0, 0, 0, 0, byte]), hex(&[number, byte, 1, 1, 1, 1, 1]));
+            }
+        }
+    }
+    out.push_str("f 100 2 8 0101010101010101\ns\n");
+}
+
+/// Every reason for no value, in extraction and in frames of each of the lengths: with a multiplexor that is inside, that is cut off, and that has conditions
+/// of its own; and a full table of each reason alone.
+pub fn reasons(out: &mut String, lengths: &[u64], step: usize) {
+    reasons_of_signals(out, step);
+    for definition in ["100 0 8 8 0 3F800000 0 0 0 0 10001", "100 0 40 8 0 3F800000 0 0 0 0 0", "100 0 8 8 0 7F7FFFFF 0 0 0 0 0"] {
+        full_of_one_reason(out, definition);
+    }
+    for (start, own) in [(0, 0), (56, 0), (0, 0x10001), (0, 0x10003)] {
+        crowd_of_reasons(out, start, own, lengths);
+    }
 }
 
 /// Short logs that end in a frame with flags and a length of every kind.

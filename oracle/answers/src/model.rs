@@ -1,6 +1,6 @@
-//! A plain model, written from document 01 as amended by document 02, T-01, of what the Rust has no counterpart for: the writer, the case of a detector's
-//! answer, the outcome of each definition that applies to a frame, and a line of the log. Single extractions and detector steps are the Rust's, and the text
-//! of a line is that of the log program over the Rust.
+//! A plain model, written from document 01 as amended by document 02, T-01 and T-02, of what the Rust has no counterpart for: why a signal has no value, the
+//! writer, the case of a detector's answer, the outcome of each definition that applies to a frame with the counts, and a line of the log. Values, the
+//! multiplexor's number and detector steps are the Rust's, and the text of a line is that of the log program over the Rust.
 
 use crate::{bytes, float, framelog, Fields};
 use vs_anomaly::{look, EwmaDetector};
@@ -28,6 +28,53 @@ fn places(order: ByteOrder, start: u64, length: u64, n: u64) -> Option<Vec<(usiz
         all.reverse();
     }
     Some(all)
+}
+
+/// Why a signal has no raw number, or else no value, by document 02's numbers: 1 is its length, 16 a bit that is in none of the bytes, 17 a value that is not
+/// finite. The bits are found one by one, each from the one before it: Intel goes up, Motorola down and from bit 0 on to the top of the next byte. The value
+/// is document 01's: the nearest f32, times scale, plus offset.
+fn refused(d: &SignalDefinition, data: &[u8], data_len: usize) -> (Option<u8>, Option<u8>) {
+    if d.bit_length == 0 || d.bit_length > 64 {
+        return (Some(1), Some(1));
+    }
+    let sent = &data[..data_len.min(data.len())];
+    let (mut byte, mut bit) = (d.start_bit / 8, d.start_bit % 8);
+    let mut number = 0i128;
+    for i in 0..d.bit_length {
+        let Some(one) = sent.get(byte as usize).map(|b| ((b >> bit) & 1) as i128) else {
+            return (Some(16), Some(16));
+        };
+        (number, byte, bit) = match (d.byte_order, bit) {
+            (ByteOrder::LittleEndian, 7) => (number + (one << i), byte + 1, 0),
+            (ByteOrder::LittleEndian, _) => (number + (one << i), byte, bit + 1),
+            (ByteOrder::BigEndian, 0) => (2 * number + one, byte + 1, 7),
+            (ByteOrder::BigEndian, _) => (2 * number + one, byte, bit - 1),
+        };
+    }
+    if d.signed && number >= 1 << (d.bit_length - 1) {
+        number -= 1 << d.bit_length;
+    }
+    let value = number as f32 * d.scale + d.offset;
+    (None, if value.is_nan() || value.is_infinite() { Some(17) } else { None })
+}
+
+/// The Rust's answer or, for its `None`, the refusal that the model found. Where only one of the two has an answer this is a text that no program prints.
+fn answered(rust: Option<String>, model: Option<u8>) -> String {
+    match (rust, model) {
+        (Some(text), None) => text,
+        (None, Some(number)) => format!("refused {number:X}"),
+        (rust, model) => format!("the Rust answers {rust:?} and the model refuses by {model:?}"),
+    }
+}
+
+/// The raw number of a signal, or the refusal.
+pub fn raw(d: &SignalDefinition, data: &[u8], data_len: usize) -> String {
+    answered(extract_signal_raw(data, data_len, d).map(|x| format!("{x:016X}")), refused(d, data, data_len).0)
+}
+
+/// The value of a signal, or the refusal.
+pub fn value(d: &SignalDefinition, data: &[u8], data_len: usize) -> String {
+    answered(extract_signal(data, data_len, d).map(float), refused(d, data, data_len).1)
 }
 
 fn written(f: &mut Fields) -> String {
@@ -147,24 +194,33 @@ impl Engine {
             .iter()
             .find(|r| applies(&r.definition) && r.definition.is_multiplexor)
             .and_then(|r| extract_signal_raw(data, data_len, &r.definition));
-        let mut count = 0;
+        let mut cases = Vec::new();
         let mut text = String::new();
         for r in self.rows.iter_mut().filter(|r| applies(&r.definition)) {
-            count += 1;
-            // case 0 is passed over, 1 no value, and then a detector's but for what it ignores
+            // Case 0 is passed over, 2 to 4 are a detector's, and no value is its refusal's number. 255 is no case: the Rust and the model disagree,
+            // or a detector ignored a value.
             let outcome = if r.definition.multiplexor_value.is_some_and(|n| mux != Some(n as u64)) {
                 (0, 0.0, 0.0, false)
-            } else if let Some(value) = extract_signal(data, data_len, &r.definition) {
-                let case = case(&r.detector, value);
-                let score = r.detector.update(value).filter(|_| case == 3);
-                (case + 1, value, score.map_or(0.0, |s| s.z_score), score.is_some_and(|s| s.is_anomalous))
             } else {
-                (1, 0.0, 0.0, false)
+                match (extract_signal(data, data_len, &r.definition), refused(&r.definition, data, data_len).1) {
+                    (Some(value), None) => {
+                        let case = match case(&r.detector, value) {
+                            0 => 254,
+                            heard => heard,
+                        };
+                        let score = r.detector.update(value).filter(|_| case == 3);
+                        (case + 1, value, score.map_or(0.0, |s| s.z_score), score.is_some_and(|s| s.is_anomalous))
+                    }
+                    (None, Some(number)) => (number, 0.0, 0.0, false),
+                    _ => (255, 0.0, 0.0, false),
+                }
             };
             let (case, value, score, flag) = outcome;
+            cases.push(case);
             text += &format!(" {:08X} {case:08X} {} {} {:08X}", r.slot, float(value), float(score), flag as u8);
         }
-        format!("p {count:02X}{text}")
+        let count = |case: u8| cases.iter().filter(|c| **c == case).count();
+        format!("p {:02X} {:02X} {:02X} {:02X}{text}", cases.len(), count(0), count(16), count(17))
     }
 }
 

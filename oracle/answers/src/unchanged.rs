@@ -1,13 +1,9 @@
-//! The answers of the unchanged Rust. What the Rust has no counterpart for is left out.
+//! The answers of the unchanged Rust, with the model's number for each `None` of extraction. What the Rust has no counterpart for is left out.
 
-use crate::{definition, detector, float, refusal, Fields};
+use crate::{definition, detector, float, model, refusal, Fields};
 use vs_anomaly::{look as inner, EwmaDetector};
 use vs_can_monitor::CanFrame;
-use vs_signal_ids::{extract_signal, extract_signal_raw, look, SignalDefinition, SignalIdsEngine, SignalIdsResult};
-
-fn raw_text(raw: Option<u64>) -> String {
-    raw.map_or("refused 1".to_string(), |x| format!("{x:016X}"))
-}
+use vs_signal_ids::{look, SignalDefinition, SignalIdsEngine, SignalIdsResult};
 
 fn listed(letter: &str, r: &SignalIdsResult) -> String {
     let mut text = format!("{letter} {:02X}", r.anomaly_count);
@@ -109,12 +105,11 @@ impl Machine {
             "r" => {
                 let (order, start, length, n) = (f.order(), f.number() as u16, f.number() as u8, f.number() as usize);
                 let def = SignalDefinition { byte_order: order, start_bit: start, bit_length: length, ..Default::default() };
-                Some(format!("r {}", raw_text(extract_signal_raw(&f.bytes(), n, &def))))
+                Some(format!("r {}", model::raw(&def, &f.bytes(), n)))
             }
             "x" => {
                 let (def, n, data) = (f.definition(), f.number() as usize, f.bytes());
-                let value = extract_signal(&data, n, &def).map_or("refused 1".to_string(), float);
-                Some(format!("x {} {value}", raw_text(extract_signal_raw(&data, n, &def))))
+                Some(format!("x {} {}", model::raw(&def, &data, n), model::value(&def, &data, n)))
             }
             "n" => Some(format!("n {}", float(f.number() as f32))),
             "i" => Some(format!("i {}", float(f.number() as i64 as f32))),

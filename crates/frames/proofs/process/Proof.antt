@@ -14,23 +14,23 @@ use Rattle.frames.specs.Parts.{raisedOf}
 use Rattle.frames.proofs.Answers.{room}
 use Rattle.frames.proofs.Rows.{Visit}
 use Rattle.frames.proofs.Search.{Searching, search-begins, search-ends, search-on, search-is}
-use Rattle.frames.proofs.Moves.{Moving, Applied, moving-begins, room-for-report, ids-stay, other-type, next-here, engine-moves, result-quiet, result-listed, moving-ends}
+use Rattle.frames.proofs.Moves.{Moving, Applied, moving-begins, room-for-report, room-in-counts, ids-stay, other-type, next-here, engine-moves, result-quiet, result-listed, moving-ends}
 use Rattle.frames.proofs.process.Statement.{statement}
 use Rattle.frames.proofs.process.Tie as tie
 
 abbrev Inv-loop : tie.InvT-loop
-Inv-loop key bytes data-len engine result n first m₀ k₀ m k =
+Inv-loop key bytes data-len engine result n next m₀ k₀ m k =
     Searching (record { engine = engine; n = n; id = key .id; extended = key .extended; bytes = bytes; size = data-len }) m k
 
 abbrev μ-loop : tie.MeasureT-loop
-μ-loop key bytes data-len engine result n first m₀ k₀ m k = n - k
+μ-loop key bytes data-len engine result n next m₀ k₀ m k = n - k
 
 abbrev Inv-loop2 : tie.InvT-loop2
-Inv-loop2 key bytes data-len engine₀ result₀ n first m k next₀ engine result next =
+Inv-loop2 key bytes data-len engine₀ result₀ n next₀ m k engine result next =
     Moving (record { engine = engine₀; n = n; id = key .id; extended = key .extended; bytes = bytes; size = data-len }) m engine result next
 
 abbrev μ-loop2 : tie.MeasureT-loop2
-μ-loop2 key bytes data-len engine₀ result₀ n first m k next₀ engine result next = n - next
+μ-loop2 key bytes data-len engine₀ result₀ n next₀ m k engine result next = n - next
 
 -- the rows and the frame that both loops are over
 abbrev visited : tie.After-clamp Inv-loop μ-loop Inv-loop2 μ-loop2 → Visit
@@ -190,13 +190,21 @@ element-set-from-report c = omega (arith, report-fits (began c))
 add-result : tie.Need-add-result Inv-loop μ-loop Inv-loop2 μ-loop2
 add-result c = omega (arith, report-fits (began c))
 
+counted-requires : tie.Need-counted-requires Inv-loop μ-loop Inv-loop2 μ-loop2
+counted-requires c κs =
+    let start = began (c .before) in
+    let turn = start .before in
+    let few = room-in-counts (visited (searched turn)) (columns (searched turn)) (number turn) (turn .loop2 .inv) in
+    let row = row-fits start in
+    (omega (arith, row, few .0), omega (arith, row, few .1 .0), omega (arith, row, few .1 .1))
+
 raised-requires : tie.Need-raised-requires Inv-loop μ-loop Inv-loop2 μ-loop2
 raised-requires c κs = search needs
 
 enum-known-anomaly : tie.Need-enum-known-anomaly Inv-loop μ-loop Inv-loop2 μ-loop2
 enum-known-anomaly c = search needs
 
-anomaly-fits : (c : tie.After-anomaly Inv-loop μ-loop Inv-loop2 μ-loop2) → began (c .before .before .before) .before .loop2 .result .«anomaly_count» < 8
+anomaly-fits : (c : tie.After-anomaly Inv-loop μ-loop Inv-loop2 μ-loop2) → began (c .before .before .before .before .before) .before .loop2 .result .«anomaly_count» < 8
 anomaly-fits c = room _ (ap raisedOf (sym (c .anomaly .given .1)) ∙ c .before .before .raised .ensures)
 
 mul-anomaly : tie.Need-mul-anomaly Inv-loop μ-loop Inv-loop2 μ-loop2
@@ -209,36 +217,36 @@ add-result-2 : tie.Need-add-result-2 Inv-loop μ-loop Inv-loop2 μ-loop2
 add-result-2 c = omega (arith, anomaly-fits (c .before))
 
 loop2-less-2 : tie.Need-loop2-less-2 Inv-loop μ-loop Inv-loop2 μ-loop2
-loop2-less-2 c = omega (arith, c .before .before .before .before .before .before .before .before .before .before .before .before .before .before .before .loop2-test .taken, c .before .before .before .before .before .before .before .before .before .before .before .row-with3 .ensures)
+loop2-less-2 c = omega (arith, c .before .before .before .before .before .before .before .before .before .before .before .before .before .before .before .before .before .loop2-test .taken, c .before .before .before .before .before .before .before .before .before .before .before .before .before .row-with3 .ensures)
 
 loop2-again-2 : tie.Need-loop2-again-2 Inv-loop μ-loop Inv-loop2 μ-loop2
 loop2-again-2 c =
-    let reported = c .before .before .before .before in
+    let reported = c .before .before .before .before .before .before in
     let start = began reported in
     let turn = start .before in
-    let next = c .before .before .before .before .before .before .before .before .before .before .before .row-with3 .ensures in
+    let next = c .before .before .before .before .before .before .before .before .before .before .before .before .before .row-with3 .ensures in
     record {
       here = next-here (visited (searched turn)) (columns (searched turn)) (number turn) (turn .loop2 .inv) (start .loop2-test .taken) next;
       engine = engine-moves (visited (searched turn)) (columns (searched turn)) (number turn) (turn .loop2 .inv) (start .loop2-test .taken) next (applied reported);
-      result = result-listed (visited (searched turn)) (columns (searched turn)) (number turn) (turn .loop2 .inv) (start .loop2-test .taken) next (applied reported) (c .before .anomaly .given .0 .0) (ap raisedOf (sym (c .before .anomaly .given .1)) ∙ c .before .before .before .raised .ensures);
+      result = result-listed (visited (searched turn)) (columns (searched turn)) (number turn) (turn .loop2 .inv) (start .loop2-test .taken) next (applied reported) (c .before .before .before .before .counted .ensures) (c .before .anomaly .given .0 .0) (ap raisedOf (sym (c .before .anomaly .given .1)) ∙ c .before .before .before .raised .ensures);
     }
 
 enum-told-2 : tie.Need-enum-told-2 Inv-loop μ-loop Inv-loop2 μ-loop2
 enum-told-2 c = search needs
 
 loop2-less-3 : tie.Need-loop2-less-3 Inv-loop μ-loop Inv-loop2 μ-loop2
-loop2-less-3 c = omega (arith, c .before .before .before .before .before .before .before .before .before .before .before .before .before .before .loop2-test .taken, c .before .before .before .before .before .before .before .before .before .before .row-with3 .ensures)
+loop2-less-3 c = omega (arith, c .before .before .before .before .before .before .before .before .before .before .before .before .before .before .before .before .loop2-test .taken, c .before .before .before .before .before .before .before .before .before .before .before .before .row-with3 .ensures)
 
 loop2-again-3 : tie.Need-loop2-again-3 Inv-loop μ-loop Inv-loop2 μ-loop2
 loop2-again-3 c =
-    let reported = c .before .before .before in
+    let reported = c .before .before .before .before .before in
     let start = began reported in
     let turn = start .before in
-    let next = c .before .before .before .before .before .before .before .before .before .before .row-with3 .ensures in
+    let next = c .before .before .before .before .before .before .before .before .before .before .before .before .row-with3 .ensures in
     record {
       here = next-here (visited (searched turn)) (columns (searched turn)) (number turn) (turn .loop2 .inv) (start .loop2-test .taken) next;
       engine = engine-moves (visited (searched turn)) (columns (searched turn)) (number turn) (turn .loop2 .inv) (start .loop2-test .taken) next (applied reported);
-      result = result-quiet (visited (searched turn)) (columns (searched turn)) (number turn) (turn .loop2 .inv) (start .loop2-test .taken) next (applied reported) (ap raisedOf (sym (c .enum-told2 .given .1)) ∙ c .before .before .raised .ensures);
+      result = result-quiet (visited (searched turn)) (columns (searched turn)) (number turn) (turn .loop2 .inv) (start .loop2-test .taken) next (applied reported) (c .before .before .before .counted .ensures) (ap raisedOf (sym (c .enum-told2 .given .1)) ∙ c .before .before .raised .ensures);
     }
 
 returns : tie.Need-returns Inv-loop μ-loop Inv-loop2 μ-loop2
@@ -286,6 +294,7 @@ process-spec =
     mul-report
     element-set-from-report
     add-result
+    counted-requires
     raised-requires
     enum-known-anomaly
     mul-anomaly

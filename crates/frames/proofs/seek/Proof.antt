@@ -7,7 +7,7 @@ use Rattle.bits.specs.Answers.{rawMeans}
 use Rattle.bits.specs.declared.Raw.{Raw}
 use Rattle.frames.specs.declared.Sought.the-variants.{Ends}
 use Rattle.frames.specs.Frames.{numbered}
-use Rattle.frames.proofs.Steps.{seek-other-type, seek-plain, seek-multiplexor}
+use Rattle.frames.proofs.Steps.{no-number, seek-other-type, seek-plain, seek-multiplexor}
 use borrow.Author.Needs.{needs}
 use Rattle.frames.proofs.seek.Statement.{statement}
 use Rattle.frames.proofs.seek.Tie as tie
@@ -31,14 +31,11 @@ extract-signal-raw-requires c κs = search needs
 enum-known-v : tie.Need-enum-known-v
 enum-known-v c = search needs
 
-enum-told : tie.Need-enum-told
-enum-told c = search needs
-
 returns-3 : tie.Need-returns-3
 returns-3 c =
-    let a = c .before .before .before .before .before .before .before .before .before .args in
-    ap (λ (q : Raw). Ends (numbered (rawMeans q))) (sym (c .enum-told .given .1))
-    ∙ seek-multiplexor (a .extended) (now (a .bytes)) (a .data-len) (a .signal .definition) (sym (c .before .before .before .before .before .before .before .is-typed .ensures) ∙ not-false _ (c .before .before .before .before .before .before .if1 .left)) (not-false _ (c .before .before .before .if2 .left)) (c .before .before .extract-signal-raw .result) (c .before .before .extract-signal-raw .ensures)
+    let a = c .before .before .before .before .before .before .before .before .args in
+    ap Ends (no-number (c .before .extract-signal-raw .result) (c .match .keys2))
+    ∙ seek-multiplexor (a .extended) (now (a .bytes)) (a .data-len) (a .signal .definition) (sym (c .before .before .before .before .before .before .is-typed .ensures) ∙ not-false _ (c .before .before .before .before .before .if1 .left)) (not-false _ (c .before .before .if2 .left)) (c .before .extract-signal-raw .result) (c .before .extract-signal-raw .ensures)
 
 returns-4 : tie.Need-returns-4
 returns-4 c =
@@ -55,6 +52,5 @@ seek-spec =
     returns-2
     extract-signal-raw-requires
     enum-known-v
-    enum-told
     returns-3
     returns-4)

@@ -7,8 +7,8 @@ use std::path::{Path, PathBuf};
 use std::process::{exit, Command, Stdio};
 use std::time::{Duration, Instant};
 
-/// What a run is asked for. `at_least` is how many calls, logs, keys alone, and remote frames both in calls and in logs it has to have compared at its
-/// end; `emulator` are the words before a program, where the machine can't run one by itself.
+/// What a run is asked for. `at_least` is how many calls, logs, keys alone, remote frames both in calls and in logs, and cases of each reason for no value it
+/// has to have compared at its end; `emulator` are the words before a program, where the machine can't run one by itself.
 #[derive(Default)]
 struct Asked {
     seconds: Option<u64>,
@@ -17,11 +17,11 @@ struct Asked {
     every: usize,
     pack: Option<PathBuf>,
     seed: u64,
-    at_least: [u64; 4],
+    at_least: [u64; 5],
     emulator: Vec<String>,
 }
 
-const USAGE: &str = "usage: compare [--seconds N] [--cases N] [--logs N [--every N] [--pack FILE]] [--seed N] [--at-least CALLS LOGS KEYS REMOTE] [--emulator WORDS]";
+const USAGE: &str = "usage: compare [--seconds N] [--cases N] [--logs N [--every N] [--pack FILE]] [--seed N] [--at-least CALLS LOGS KEYS REMOTE REASON] [--emulator WORDS]";
 
 fn asked(words: &[String]) -> Option<Asked> {
     let mut a = Asked { every: 1, seed: 1, ..Default::default() };
@@ -34,7 +34,7 @@ fn asked(words: &[String]) -> Option<Asked> {
             "--logs" => a.logs = Some(number()?),
             "--every" => a.every = number().filter(|n| *n > 0)? as usize,
             "--seed" => a.seed = number()?,
-            "--at-least" => a.at_least = [number()?, number()?, number()?, number()?],
+            "--at-least" => a.at_least = [number()?, number()?, number()?, number()?, number()?],
             "--pack" => a.pack = Some(PathBuf::from(words.next()?)),
             "--emulator" => a.emulator = words.next()?.split_whitespace().map(String::from).collect(),
             _ => return None,
@@ -129,6 +129,43 @@ fn is_remote(call: &str) -> bool {
     call.starts_with("f ") && flags(&call.split(' ').collect::<Vec<_>>()) & 2 != 0
 }
 
+/// How often each reason for no value was answered: the refusals 1, 16 and 17 by `extract_raw`, by `extract_signal_raw` and by `extract_signal`, and in frames'
+/// outcomes condition not met, outside and not finite. They are the model's, and a script is compared with them whole. The first two never answer 17.
+#[derive(Default)]
+struct Reasons([[u64; 3]; 4]);
+
+impl Reasons {
+    fn add(&mut self, answers: &str) {
+        for line in answers.lines() {
+            let mut fields = line.split(' ');
+            let rows = match fields.next() {
+                Some("r") => 0..1,
+                Some("x") => 1..3,
+                Some("p") => {
+                    for (sum, count) in self.0[3].iter_mut().zip(fields.skip(1)) {
+                        *sum += u64::from_str_radix(count, 16).expect("a count");
+                    }
+                    continue;
+                }
+                _ => continue,
+            };
+            for row in rows {
+                if fields.next() == Some("refused") {
+                    let number = fields.next();
+                    let at = ["1", "10", "11"].iter().position(|n| number == Some(*n)).expect("a refusal of extraction");
+                    self.0[row][at] += 1;
+                }
+            }
+        }
+    }
+
+    /// Of those that there are, the one seen least.
+    fn least(&self) -> u64 {
+        let [raw, signal_raw, value, outcomes] = &self.0;
+        raw[..2].iter().chain(&signal_raw[..2]).chain(value).chain(outcomes).copied().min().unwrap_or(0)
+    }
+}
+
 /// The key of a frame: its effective identifier and frame type.
 fn key(call: &str) -> Option<(u64, bool)> {
     let fields: Vec<&str> = call.split(' ').collect();
@@ -186,16 +223,19 @@ struct Bench {
     isolated: u64,
     remote_calls: u64,
     remote_records: u64,
+    reasons: Reasons,
 }
 
 impl Bench {
     fn script(&mut self, script: &str) {
         self.calls += script.lines().count() as u64;
         self.remote_calls += script.lines().filter(|l| is_remote(l)).count() as u64;
-        let differs = |s: &str| self.replay.output(s.as_bytes(), &self.scratch) != answers_of(s).as_bytes();
-        if !differs(script) {
+        let answers = answers_of(script);
+        self.reasons.add(&answers);
+        if self.replay.output(script.as_bytes(), &self.scratch) == answers.as_bytes() {
             return;
         }
+        let differs = |s: &str| self.replay.output(s.as_bytes(), &self.scratch) != answers_of(s).as_bytes();
         let lines: Vec<String> = script.lines().map(|l| format!("{l}\n")).collect();
         let least = smallest(lines, |l| differs(&l.concat())).concat();
         println!("DIFFERENT on this script:\n{least}");
@@ -260,6 +300,7 @@ impl Bench {
         g::last_slots(&mut out, true);
         g::crowds(&mut out, &mut d);
         g::remotes(&mut out, &(0..256).collect::<Vec<_>>());
+        g::reasons(&mut out, &[0, 1, 2, 3, 4, 5, 6, 7, 8, 9, 15], 1);
         self.script(&out);
         for log in g::flagged_logs() {
             self.log(&log, 2);
@@ -330,6 +371,11 @@ impl Bench {
             "compared {} calls ({} remote frames), {} logs of {} records ({} remote frames), {} keys alone: no difference ({} s)",
             self.calls, self.remote_calls, self.logs, self.records, self.remote_records, self.isolated, since.elapsed().as_secs()
         );
+        if self.calls > 0 {
+            let [[a, b, _], [c, d, _], [e, f, g], [h, i, j]] = self.reasons.0;
+            println!("refused by 1 and 16: extract_raw {a} {b}, extract_signal_raw {c} {d}; by 1, 16 and 17: extract_signal {e} {f} {g}");
+            println!("outcomes condition not met, outside and not finite: {h} {i} {j}");
+        }
         let _ = std::io::stdout().flush();
     }
 }
@@ -344,7 +390,7 @@ fn main() {
     let scratch = std::env::temp_dir().join(format!("compare-{}", std::process::id()));
     let pack = asked.pack.map(|file| BufWriter::new(File::create(file).expect("the pack is made")));
     let program = |name| Program::new(&asked.emulator, &bin.join(name));
-    let mut b = Bench { replay: program("replay"), framelog: program("framelog"), scratch, pack, calls: 0, records: 0, logs: 0, isolated: 0, remote_calls: 0, remote_records: 0 };
+    let mut b = Bench { replay: program("replay"), framelog: program("framelog"), scratch, pack, calls: 0, records: 0, logs: 0, isolated: 0, remote_calls: 0, remote_records: 0, reasons: Reasons::default() };
     let since = Instant::now();
     let mut said = since;
     if let Some(n) = asked.logs {
@@ -376,9 +422,13 @@ fn main() {
     }
     println!("seeds {} to {}", asked.seed, seed.max(asked.seed + 1) - 1);
     let _ = std::fs::remove_file(&b.scratch);
-    let [calls, logs, keys, remote] = asked.at_least;
-    if b.calls < calls || b.logs < logs || b.isolated < keys || b.remote_calls.min(b.remote_records) < remote {
-        println!("FEWER than the {calls} calls, {logs} logs, {keys} keys alone, and {remote} remote frames in calls and in logs that were asked for");
+    let [calls, logs, keys, remote, reason] = asked.at_least;
+    if b.calls < calls || b.logs < logs || b.isolated < keys || b.remote_calls.min(b.remote_records) < remote || b.reasons.least() < reason {
+        println!("FEWER than the {calls} calls, {logs} logs, {keys} keys alone, {remote} remote frames in calls and in logs, and {reason} cases of each reason that were asked for");
+        exit(1);
+    }
+    if b.calls > 0 && b.reasons.least() == 0 {
+        println!("NOT SEEN: one of the reasons for no value");
         exit(1);
     }
 }

@@ -19,5 +19,6 @@ fn main() {
     g::engines(&mut out, &mut d, 500, 60);
     g::one_engine(&mut out, &mut d, 30, true);
     g::remotes(&mut out, &[0, 1, 2, 3, 4, 5, 6, 7, 8, 9, 10, 11, 12, 13, 14, 15, 255]);
+    g::reasons(&mut out, &[8], 5);
     print!("{out}");
 }

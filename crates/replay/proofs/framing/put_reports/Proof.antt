@@ -19,8 +19,8 @@ slice-aggregate-put-text c = search needs
 put-text-requires : tie.Need-put-text-requires Inv-loop μ-loop
 put-text-requires c κs = search needs
 
-put-field-requires : tie.Need-put-field-requires Inv-loop μ-loop
-put-field-requires c κs = search needs
+put-counts-requires : tie.Need-put-counts-requires Inv-loop μ-loop
+put-counts-requires c κs = search needs
 
 loop-holds : tie.Need-loop-holds Inv-loop μ-loop
 loop-holds c = search needs
@@ -69,7 +69,7 @@ put-reports-spec =
     μ-loop
     slice-aggregate-put-text
     put-text-requires
-    put-field-requires
+    put-counts-requires
     loop-holds
     put-byte-requires
     same-length

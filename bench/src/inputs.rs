@@ -26,7 +26,7 @@ impl Random {
     }
 }
 
-/// Where a signal stands in eight bytes.
+/// Where a signal stands in its bytes.
 #[derive(Clone, Copy)]
 pub struct Place {
     pub motorola: bool,
@@ -34,34 +34,57 @@ pub struct Place {
     pub length: u8,
 }
 
-impl Place {
-    /// Order, length and start bit, from the top, as the proved loop takes them.
-    pub fn packed(self) -> u32 {
-        (self.motorola as u32) << 24 | (self.length as u32) << 16 | self.start as u32
-    }
+/// Places in columns, as the proved loop takes them.
+pub struct Places {
+    pub starts: Vec<u16>,
+    pub lengths: Vec<u8>,
+    pub motorola: Vec<u8>,
+}
 
+impl Places {
+    pub fn of(all: &[Place]) -> Places {
+        Places {
+            starts: all.iter().map(|p| p.start).collect(),
+            lengths: all.iter().map(|p| p.length).collect(),
+            motorola: all.iter().map(|p| p.motorola as u8).collect(),
+        }
+    }
+}
+
+impl Place {
     /// The signal of `length` bits whose first bit is the order's bit `m`.
     fn at(motorola: bool, m: u64, length: u64) -> Place {
         let start = if motorola { 8 * (m / 8) + 7 - m % 8 } else { m };
         Place { motorola, start: start as u16, length: length as u8 }
     }
 
-    /// 8 or 16 bits, made of whole bytes.
-    pub fn aligned(r: &mut Random) -> Place {
+    /// 8 or 16 bits of `size` bytes, made of whole bytes.
+    pub fn aligned(r: &mut Random, size: u64) -> Place {
         let bytes = 1 + r.below(2);
-        Place::at(r.once_in(2), 8 * r.below(9 - bytes), 8 * bytes)
+        Place::at(r.once_in(2), 8 * r.below(size + 1 - bytes), 8 * bytes)
     }
 
     /// 10 or 12 bits.
-    pub fn odd(r: &mut Random) -> Place {
+    pub fn odd(r: &mut Random, size: u64) -> Place {
         let length = 10 + 2 * r.below(2);
-        Place::at(r.once_in(2), r.below(65 - length), length)
+        Place::at(r.once_in(2), r.below(8 * size + 1 - length), length)
     }
 
-    /// 1 to 64 bits.
-    pub fn any(r: &mut Random) -> Place {
+    /// 1 to 64 bits; `size` is at least eight.
+    pub fn any(r: &mut Random, size: u64) -> Place {
         let length = 1 + r.below(64);
-        Place::at(r.once_in(2), r.below(65 - length), length)
+        Place::at(r.once_in(2), r.below(8 * size + 1 - length), length)
+    }
+
+    /// 58 to 64 bits that touch nine bytes; `size` is at least nine.
+    pub fn in_nine(r: &mut Random, size: u64) -> Place {
+        let length = 58 + r.below(7);
+        Place::at(r.once_in(2), 8 * r.below(size - 8) + 65 - length + r.below(length - 57), length)
+    }
+
+    /// No bits: refused at once, so that little but the loop is timed.
+    pub fn none(_: &mut Random, _: u64) -> Place {
+        Place::at(false, 0, 0)
     }
 }
 
@@ -122,7 +145,7 @@ impl Traffic {
         let mut definitions = Vec::new();
         for k in 0..count {
             let (id, extended) = identifier(k % ids);
-            let place = if k % 2 == 0 { Place::aligned(&mut r) } else { Place::odd(&mut r) };
+            let place = if k % 2 == 0 { Place::aligned(&mut r, 8) } else { Place::odd(&mut r, 8) };
             let flags = extended as u8 | if r.below(5) < 2 { 4 } else { 0 };
             match k / ids {
                 _ if k % ids % 8 != 1 => definition(&mut definitions, id, flags, place, 0),
@@ -171,7 +194,7 @@ impl Traffic {
         let mut definitions = Vec::new();
         for k in 0..64 {
             let (id, extended) = identifier(k / 8);
-            let place = if k % 2 == 0 { Place::aligned(&mut r) } else { Place::odd(&mut r) };
+            let place = if k % 2 == 0 { Place::aligned(&mut r, 8) } else { Place::odd(&mut r, 8) };
             definition(&mut definitions, id, extended as u8 | if r.below(5) < 2 { 4 } else { 0 }, place, 0);
         }
         let mut out = Vec::with_capacity(16 * frames);

@@ -6,7 +6,7 @@ mod inputs;
 mod proved;
 mod unchanged;
 
-use inputs::{Place, Random, Traffic, ALPHA, THRESHOLD};
+use inputs::{Place, Places, Random, Traffic, ALPHA, THRESHOLD};
 use std::path::{Path, PathBuf};
 use std::process::{Command, Stdio};
 use vs_signal_ids::SignalDefinition;
@@ -53,7 +53,7 @@ impl Row {
             ratios[ratios.len() / 4],
             ratios[ratios.len() - 1 - ratios.len() / 4],
             ours[0] / rust[0],
-            self.aim.map_or(String::new(), |x| format!("{x:.1}")),
+            self.aim.map_or(String::new(), |x| format!("{x:.2}")),
         );
     }
 }
@@ -68,19 +68,19 @@ fn median(sorted: &[f64]) -> f64 {
     (sorted[(sorted.len() - 1) / 2] + sorted[sorted.len() / 2]) / 2.0
 }
 
-fn raw(name: &str, aim: Option<f64>, place: fn(&mut Random) -> Place) -> Row {
+fn raw(name: &str, aim: Option<f64>, size: usize, place: fn(&mut Random, u64) -> Place) -> Row {
     let mut r = Random::new(0x5EED_0004);
-    let places: Vec<Place> = (0..CALLS).map(|_| place(&mut r)).collect();
-    let data: Vec<u8> = (0..CALLS).flat_map(|_| r.next().to_le_bytes()).collect();
-    let packed: Vec<u32> = places.iter().map(|p| p.packed()).collect();
+    let places: Vec<Place> = (0..CALLS).map(|_| place(&mut r, size as u64)).collect();
+    let data: Vec<u8> = (0..CALLS + 8).flat_map(|_| r.next().to_le_bytes()).collect();
+    let columns = Places::of(&places);
     let definitions: Vec<SignalDefinition> = places.iter().map(unchanged::definition_at).collect();
     let same = data.clone();
     Row::new(
         name,
         CALLS,
         aim,
-        Box::new(move || clock::of(|| proved::raw(&data, &packed))),
-        Box::new(move || clock::of(|| unchanged::raw(&same, &definitions))),
+        Box::new(move || clock::of(|| proved::raw(&data, size, &columns))),
+        Box::new(move || clock::of(|| unchanged::raw(&same, size, &definitions))),
     )
 }
 
@@ -170,9 +170,13 @@ impl Programs {
 /// Each call by itself, and the log program.
 fn calls(programs: &Programs) -> Vec<Row> {
     vec![
-        raw("raw number, 8 or 16 bits, whole bytes", Some(1.0), Place::aligned),
-        raw("raw number, 10 or 12 bits, odd", Some(0.4), Place::odd),
-        raw("raw number, 1 to 64 bits, anywhere", Some(0.4), Place::any),
+        raw("raw number, 8 or 16 bits, whole bytes", Some(0.84), 8, Place::aligned),
+        raw("raw number, 10 or 12 bits, odd", Some(0.25), 8, Place::odd),
+        raw("raw number, 1 to 64 bits, anywhere", Some(0.15), 8, Place::any),
+        raw("raw number, 10 or 12 bits, odd, of 7 bytes", None, 7, Place::odd),
+        raw("raw number, 1 to 64 bits, anywhere in 64 bytes", None, 64, Place::any),
+        raw("raw number, 58 to 64 bits, in nine of 64 bytes", None, 64, Place::in_nine),
+        raw("raw number, length 0, refused at once", None, 8, Place::none),
         nearest("whole number to f32, below 2^12", |r| r.below(1 << 12)),
         nearest("whole number to f32, 25 to 64 bits", |r| (r.next() | 1 << 63) >> r.below(40)),
         nearest("whole number to f32, 1 to 64 bits", |r| (r.next() | 1 << 63) >> r.below(64)),

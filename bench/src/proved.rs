@@ -1,8 +1,20 @@
 //! The proved loops of bench/loops. None asks anything of its caller.
 
+use crate::inputs::Places;
+
 mod exported {
     extern "C" {
-        pub fn timed_raw(data: *const u8, data_len: usize, places: *const u32, places_len: usize) -> u64;
+        pub fn timed_raw(
+            data: *const u8,
+            data_len: usize,
+            size: usize,
+            starts: *const u16,
+            starts_len: usize,
+            lengths: *const u8,
+            lengths_len: usize,
+            motorola: *const u8,
+            motorola_len: usize,
+        ) -> u64;
         pub fn timed_nearest(numbers: *const u64, numbers_len: usize) -> u64;
         pub fn timed_update(alpha: f32, threshold: f32, turns: usize, values: *const f32, values_len: usize) -> u64;
         pub fn timed_frames(
@@ -16,8 +28,21 @@ mod exported {
     }
 }
 
-pub fn raw(data: &[u8], places: &[u32]) -> u64 {
-    unsafe { exported::timed_raw(data.as_ptr(), data.len(), places.as_ptr(), places.len()) }
+pub fn raw(data: &[u8], size: usize, places: &Places) -> u64 {
+    let Places { starts, lengths, motorola } = places;
+    unsafe {
+        exported::timed_raw(
+            data.as_ptr(),
+            data.len(),
+            size,
+            starts.as_ptr(),
+            starts.len(),
+            lengths.as_ptr(),
+            lengths.len(),
+            motorola.as_ptr(),
+            motorola.len(),
+        )
+    }
 }
 
 pub fn nearest(numbers: &[u64]) -> u64 {

@@ -26,11 +26,11 @@ pub fn definition_at(p: &Place) -> SignalDefinition {
     SignalDefinition { start_bit: p.start, bit_length: p.length, byte_order: order(p.motorola), ..Default::default() }
 }
 
-pub fn raw(data: &[u8], places: &[SignalDefinition]) -> u64 {
-    let n = (data.len() / 8).min(places.len());
+pub fn raw(data: &[u8], size: usize, places: &[SignalDefinition]) -> u64 {
+    let n = ((data.len() - size) / 8 + 1).min(places.len());
     let mut sum = 0;
     for i in 0..n {
-        sum = mixed(sum, extract_signal_raw(&data[8 * i..8 * i + 8], 8, &places[i]).unwrap_or(1));
+        sum = mixed(sum, extract_signal_raw(&data[8 * i..8 * i + size], size, &places[i]).unwrap_or(1));
     }
     sum
 }

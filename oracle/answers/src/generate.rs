@@ -131,6 +131,20 @@ pub fn every_place(out: &mut String, d: &mut Dice) {
     }
 }
 
+/// Every order, start and length on slices of 0 to 17 bytes, and on 64 bytes with the lengths that can touch nine: what can be read out of eight bytes at once,
+/// the first ones or the last or some between, and what can't. Each once more with a byte behind `data_len`.
+pub fn every_slice(out: &mut String, d: &mut Dice) {
+    for n in (0..=17).chain([64]) {
+        let lengths = if n < 64 { 1..=64u64 } else { 58..=64 };
+        for (order, start) in (0..2).flat_map(|order| (0..=8 * n).map(move |start| (order, start))) {
+            for (length, size) in lengths.clone().flat_map(|length| [(length, n), (length, n + 1)]) {
+                let data: Vec<u8> = (0..size).map(|_| (d.next() >> 32) as u8).collect();
+                let _ = writeln!(out, "r {order} {start:X} {length:X} {n:X} {}", hex(&data));
+            }
+        }
+    }
+}
+
 /// Reads and writes at random.
 pub fn places(out: &mut String, d: &mut Dice, calls: usize) {
     for _ in 0..calls {

@@ -301,6 +301,7 @@ impl Bench {
         g::crowds(&mut out, &mut d);
         g::remotes(&mut out, &(0..256).collect::<Vec<_>>());
         g::reasons(&mut out, &[0, 1, 2, 3, 4, 5, 6, 7, 8, 9, 15], 1);
+        g::every_slice(&mut out, &mut g::Dice::new(2));
         self.script(&out);
         for log in g::flagged_logs() {
             self.log(&log, 2);

@@ -88,6 +88,39 @@ impl Place {
     }
 }
 
+/// Bytes for the models, and a threshold that flags some of them by their bin's part.
+#[derive(Clone)]
+pub struct Bytes {
+    pub values: Vec<u8>,
+    pub threshold: f32,
+}
+
+impl Bytes {
+    /// States below 10 in runs of 20 on average, the lower ones more often, and once in 200 times any byte.
+    pub fn states(n: usize) -> Bytes {
+        let mut r = Random::new(0x5EED_0007);
+        let mut state = 0;
+        let mut byte = || {
+            if r.once_in(20) {
+                state = r.below(10).min(r.below(10)) as u8;
+            }
+            if r.once_in(200) { r.below(256) as u8 } else { state }
+        };
+        Bytes { values: (0..n).map(|_| byte()).collect(), threshold: 0.02 }
+    }
+
+    /// A counter below 16 that goes round.
+    pub fn counter(n: usize) -> Bytes {
+        Bytes { values: (0..n).map(|i| (i % 16) as u8).collect(), threshold: 1.0 / 16.0 }
+    }
+
+    /// Any byte, each as often as the others.
+    pub fn random(n: usize) -> Bytes {
+        let mut r = Random::new(0x5EED_0008);
+        Bytes { values: (0..n).map(|_| r.below(256) as u8).collect(), threshold: 1.0 / 256.0 }
+    }
+}
+
 /// The definition record of a log: `flags` are extended 1, signed 4, multiplexor 8, conditional 16.
 fn definition(out: &mut Vec<u8>, id: u32, flags: u8, p: Place, condition: u16) {
     let name = (out.len() / 24) as u32;

@@ -3,6 +3,7 @@
 
 mod clock;
 mod inputs;
+mod models;
 mod proved;
 mod unchanged;
 
@@ -222,16 +223,19 @@ fn main() {
     let rounds: usize = args[1].parse().expect("the number of rounds");
     assert!(rounds > 0, "at least one round");
     let programs = Programs { ours: (&args[2]).into(), rust: (&args[3]).into(), logs: (&args[4]).into() };
-    let (mut calls, mut growth) = (calls(&programs), growth(&programs));
+    let (mut calls, mut models, mut growth) = (calls(&programs), models::rows(), growth(&programs));
     // the first round only warms up
     for k in 0..=rounds {
         eprint!("\rround {k} of {rounds} ");
-        calls.iter_mut().chain(&mut growth).for_each(Row::round);
-        if k == 0 {
-            calls.iter_mut().chain(&mut growth).for_each(|row| row.took.clear());
+        for row in calls.iter_mut().chain(&mut models).chain(&mut growth) {
+            row.round();
+            if k == 0 {
+                row.took.clear();
+            }
         }
     }
     eprintln!();
     print(&format!("{rounds} rounds in turn, for a call"), &calls);
+    print("models of bytes, for a call", &models);
     print("how it grows, for a frame", &growth);
 }

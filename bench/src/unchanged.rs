@@ -1,7 +1,7 @@
 //! The loops of bench/loops over the unchanged Rust.
 
 use crate::inputs::Place;
-use vs_anomaly::{AnomalyScore, EwmaDetector};
+use vs_anomaly::{look, AnomalyScore, EwmaDetector, HistogramDetector, MarkovDetector};
 use vs_can_monitor::CanFrame;
 use vs_signal_ids::{extract_signal_raw, ByteOrder, SignalDefinition, SignalIdsEngine, SignalIdsResult};
 
@@ -110,4 +110,75 @@ pub fn frames(alpha: f32, threshold: f32, definitions: &[u8], frames: &[u8]) -> 
         sum = mixed_anomalies(sum, &result);
     }
     sum
+}
+
+fn mixed_counts(sum: u64, counts: &[u64]) -> u64 {
+    counts.iter().fold(sum, |sum, &x| mixed(sum, x))
+}
+
+fn mixed_model<const BINS: usize>(sum: u64, d: &HistogramDetector<BINS>) -> u64 {
+    let (_, total, seen, saturated) = look::histogram(d);
+    mixed(mixed_counts(mixed(sum, total), &seen), saturated as u64)
+}
+
+fn mixed_models<const BINS: usize>(sum: u64, all: &[HistogramDetector<BINS>]) -> u64 {
+    let models = all.iter().fold(sum, |sum, d| mixed_model(sum, d));
+    all.iter().fold(models, |sum, d| mixed_counts(sum, look::histogram(d).0))
+}
+
+pub fn observe<const BINS: usize>(values: &[u8]) -> u64 {
+    let mut d = HistogramDetector::<BINS>::new();
+    for &x in values {
+        d.observe(x);
+    }
+    mixed_models(0, &[d])
+}
+
+pub fn observe_turns<const BINS: usize>(detectors: &mut [HistogramDetector<BINS>; 64], values: &[u8]) -> u64 {
+    let mut at = 0;
+    for &x in values {
+        detectors[at].observe(x);
+        at = (at + 1) % 64;
+    }
+    mixed_models(0, detectors)
+}
+
+pub fn anomalous<const BINS: usize>(d: &HistogramDetector<BINS>, values: &[u8], threshold: f32) -> u64 {
+    values.iter().fold(0, |sum, &x| mixed(sum, !d.is_anomalous(x, threshold) as u64))
+}
+
+pub fn watch<const BINS: usize>(d: &mut HistogramDetector<BINS>, values: &[u8], threshold: f32) -> u64 {
+    let mut sum = 0;
+    for &x in values {
+        sum = mixed(sum, !d.is_anomalous(x, threshold) as u64);
+        d.observe(x);
+    }
+    mixed_models(sum, std::slice::from_ref(d))
+}
+
+pub fn watch_turns<const BINS: usize>(detectors: &mut [HistogramDetector<BINS>; 64], values: &[u8], threshold: f32) -> u64 {
+    let (mut sum, mut at) = (0, 0);
+    for &x in values {
+        sum = mixed(sum, !detectors[at].is_anomalous(x, threshold) as u64);
+        detectors[at].observe(x);
+        at = (at + 1) % 64;
+    }
+    mixed_models(sum, detectors)
+}
+
+pub fn probability<const BINS: usize>(d: &HistogramDetector<BINS>, values: &[u8]) -> u64 {
+    values.iter().fold(0, |sum, &x| mixed_float(sum, d.probability(x)))
+}
+
+pub fn transitions<const N: usize>(values: &[u8]) -> u64 {
+    let mut d = MarkovDetector::<N>::new();
+    for pair in values.windows(2) {
+        d.observe_transition(pair[0], pair[1]);
+    }
+    let (transition, row_totals, saturated) = look::markov(&d);
+    mixed_counts(mixed_counts(mixed(0, saturated as u64), transition), row_totals)
+}
+
+pub fn scores<const N: usize>(d: &MarkovDetector<N>, values: &[u8]) -> u64 {
+    values.windows(2).fold(0, |sum, pair| mixed_float(sum, d.score_transition(pair[0], pair[1])))
 }

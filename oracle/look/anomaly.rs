@@ -1,7 +1,7 @@
 
-/// Appended by the oracle's build: reads what is private above, and changes nothing.
+/// Appended by the oracle's build: reads what is private above, makes models of bytes of any fields, and changes nothing.
 pub mod look {
-    use super::EwmaDetector;
+    use super::{EwmaDetector, HistogramDetector, MarkovDetector};
 
     /// The fields of a detector: mean, variance, alpha and threshold.
     pub fn floats(d: &EwmaDetector) -> [f32; 4] {
@@ -16,5 +16,25 @@ pub mod look {
     /// The private square root.
     pub fn sqrt_approx(x: f32) -> f32 {
         super::sqrt_approx(x)
+    }
+
+    /// The fields of a histogram: counts, total, seen map and flag.
+    pub fn histogram<const BINS: usize>(d: &HistogramDetector<BINS>) -> (&[u64], u64, [u64; 4], bool) {
+        (&d.counts, d.total, d.seen, d.saturated)
+    }
+
+    /// A histogram of these fields.
+    pub fn histogram_of<const BINS: usize>(counts: [u64; BINS], total: u64, seen: [u64; 4], saturated: bool) -> HistogramDetector<BINS> {
+        HistogramDetector { counts, total, seen, saturated }
+    }
+
+    /// The fields of a Markov model: the transitions row after row, row totals and flag.
+    pub fn markov<const N: usize>(d: &MarkovDetector<N>) -> (&[u64], &[u64], bool) {
+        (d.transition.as_flattened(), &d.row_totals, d.saturated)
+    }
+
+    /// A Markov model of these fields.
+    pub fn markov_of<const N: usize>(transition: [[u64; N]; N], row_totals: [u64; N], saturated: bool) -> MarkovDetector<N> {
+        MarkovDetector { transition, row_totals, saturated }
     }
 }

@@ -1,9 +1,11 @@
 // Answers a script of library calls on standard input: each answer, each lent buffer and, where asked, the whole state.
 // The same script goes to the Rust, and the two outputs are compared. The form of a script is in oracle/SCRIPTS.md; the
 // files stdin and stdout of this crate, a script and the Rust's answers, are made by oracle/stored.
+mod chaining;
 mod detecting;
 mod engine;
 mod framing;
+mod modelling;
 mod plain;
 mod rendering;
 mod script;
@@ -14,6 +16,8 @@ ghost use lib.ListN.{length};
 use detector::EwmaDetector;
 use libc::STDIN_FILENO;
 use libc::STDOUT_FILENO;
+use models::HistogramDetector;
+use models::MarkovDetector;
 use table::SignalIdsEngine;
 
 // What the calls of a script act on, and how much of the output buffer is in use.
@@ -22,6 +26,8 @@ struct Machine {
     has_detector: bool,
     engine: SignalIdsEngine,
     has_engine: bool,
+    histogram: HistogramDetector,
+    markov: MarkovDetector,
     at: usize,
 }
 
@@ -47,7 +53,49 @@ fn on_engine(m: Machine, letter: u8, s: &[u8], data: &mut [u8], out: &mut [u8]) 
     next
 }
 
-fn answered(m: Machine, letter: u8, s: &[u8], data: &mut [u8], out: &mut [u8]) -> Machine {
+fn on_histogram(m: Machine, letter: u8, s: &[u8], bins: &mut [u64], out: &mut [u8]) -> Machine {
+    let h = m.histogram;
+    let b = modelling::answered(h, letter, s, bins, out, m.at);
+    let histogram = b.model;
+    let mut next = m;
+    next.histogram = histogram;
+    next.at = b.at;
+    next
+}
+
+fn on_markov(
+    m: Machine,
+    letter: u8,
+    s: &[u8],
+    transition: &mut [u64],
+    row_totals: &mut [u64],
+    out: &mut [u8],
+) -> Machine {
+    let k = m.markov;
+    let c = chaining::answered(k, letter, s, transition, row_totals, out, m.at);
+    let markov = c.model;
+    let mut next = m;
+    next.markov = markov;
+    next.at = c.at;
+    next
+}
+
+fn answered(
+    m: Machine,
+    letter: u8,
+    s: &[u8],
+    data: &mut [u8],
+    bins: &mut [u64],
+    transition: &mut [u64],
+    row_totals: &mut [u64],
+    out: &mut [u8],
+) -> Machine {
+    if modelling::is_call(letter) {
+        return on_histogram(m, letter, s, bins, out);
+    }
+    if chaining::is_call(letter) {
+        return on_markov(m, letter, s, transition, row_totals, out);
+    }
     if engine::is_call(letter) {
         return on_engine(m, letter, s, data, out);
     }
@@ -78,11 +126,19 @@ fn flushed(m: Machine, room: usize, out: &[u8]) -> Machine {
     next
 }
 
-fn line(m: Machine, s: &[u8], data: &mut [u8], out: &mut [u8]) -> Machine {
+fn line(
+    m: Machine,
+    s: &[u8],
+    data: &mut [u8],
+    bins: &mut [u64],
+    transition: &mut [u64],
+    row_totals: &mut [u64],
+    out: &mut [u8],
+) -> Machine {
     if s.len() == 0 {
         return m;
     }
-    let next = answered(m, s[0], s, data, out);
+    let next = answered(m, s[0], s, data, bins, transition, row_totals, out);
     flushed(next, 32768, out)
 }
 
@@ -108,7 +164,17 @@ struct Done {
 }
 
 // Every whole line in the first `n` bytes, and the last one without its end where the input has ended.
-fn lines(m: Machine, s: &[u8], n: usize, last: bool, data: &mut [u8], out: &mut [u8]) -> Done
+fn lines(
+    m: Machine,
+    s: &[u8],
+    n: usize,
+    last: bool,
+    data: &mut [u8],
+    bins: &mut [u64],
+    transition: &mut [u64],
+    row_totals: &mut [u64],
+    out: &mut [u8],
+) -> Done
     requires { ⌜ n ≤ length (now s) ⌝ }
     ensures { λ r. ⌜ r .used ≤ n ⌝ }
 {
@@ -118,12 +184,28 @@ fn lines(m: Machine, s: &[u8], n: usize, last: bool, data: &mut [u8], out: &mut 
         let end = line_end(s, at, n);
         if end == n {
             if last {
-                machine = line(machine, &s[at..end], data, out);
+                machine = line(
+                    machine,
+                    &s[at..end],
+                    data,
+                    bins,
+                    transition,
+                    row_totals,
+                    out,
+                );
             }
             return Done { machine, used: at };
         }
         let next = end + 1;
-        machine = line(machine, &s[at..end], data, out);
+        machine = line(
+            machine,
+            &s[at..end],
+            data,
+            bins,
+            transition,
+            row_totals,
+            out,
+        );
         at = next;
     }
     Done { machine, used: at }
@@ -151,7 +233,15 @@ struct State {
 }
 
 // One read, and the lines that are whole then. A line longer than the buffer ends the run.
-fn turn(st: State, input: &mut [u8], data: &mut [u8], out: &mut [u8]) -> State
+fn turn(
+    st: State,
+    input: &mut [u8],
+    data: &mut [u8],
+    bins: &mut [u64],
+    transition: &mut [u64],
+    row_totals: &mut [u64],
+    out: &mut [u8],
+) -> State
     requires { ⌜ st .have ≤ length (now input) ⌝ }
     ensures { λ r. ⌜ r .have ≤ length (now (input .exit)) ⌝ }
 {
@@ -159,7 +249,17 @@ fn turn(st: State, input: &mut [u8], data: &mut [u8], out: &mut [u8]) -> State
     let machine = st.machine;
     let got = io::read_full(STDIN_FILENO, &mut input[have..]);
     let n = have + got;
-    let done = lines(machine, input, n, got == 0, data, out);
+    let done = lines(
+        machine,
+        input,
+        n,
+        got == 0,
+        data,
+        bins,
+        transition,
+        row_totals,
+        out,
+    );
     let used = done.used;
     let next = done.machine;
     let left = move_down(input, used, n);
@@ -171,7 +271,14 @@ fn turn(st: State, input: &mut [u8], data: &mut [u8], out: &mut [u8]) -> State
 }
 
 // A proved loop has to end, and nothing says that the input does: the turns are counted down from a number that no run uses up.
-fn run(input: &mut [u8], data: &mut [u8], out: &mut [u8]) {
+fn run(
+    input: &mut [u8],
+    data: &mut [u8],
+    bins: &mut [u64],
+    transition: &mut [u64],
+    row_totals: &mut [u64],
+    out: &mut [u8],
+) {
     let none = SignalIdsEngine::new(0.0, 0.0);
     let engine = none.engine;
     let mut st = State {
@@ -180,6 +287,8 @@ fn run(input: &mut [u8], data: &mut [u8], out: &mut [u8]) {
             has_detector: false,
             engine,
             has_engine: false,
+            histogram: modelling::none(),
+            markov: chaining::none(),
             at: 0,
         },
         have: 0,
@@ -192,7 +301,7 @@ fn run(input: &mut [u8], data: &mut [u8], out: &mut [u8]) {
             flushed(machine, 0, out);
             return;
         }
-        st = turn(st, input, data, out);
+        st = turn(st, input, data, bins, transition, row_totals, out);
         turns -= 1;
     }
 }
@@ -200,6 +309,16 @@ fn run(input: &mut [u8], data: &mut [u8], out: &mut [u8]) {
 fn main() {
     let mut input = io::large_buffer();
     let mut data = io::buffer();
+    let mut bins = modelling::bins();
+    let mut transition = chaining::transitions();
+    let mut row_totals = chaining::rows();
     let mut out = io::large_buffer();
-    run(&mut input, &mut data, &mut out);
+    run(
+        &mut input,
+        &mut data,
+        &mut bins,
+        &mut transition,
+        &mut row_totals,
+        &mut out,
+    );
 }

@@ -68,7 +68,18 @@ pub fn put_words(out: &mut [u8], at: usize, words: &[u64]) -> usize {
     to
 }
 
-// A refusal by its number, which is 1, or 16 or 17 in two hexadecimal digits.
+// A blank and sixteen digits for each number.
+pub fn put_longs(out: &mut [u8], at: usize, words: &[u64]) -> usize {
+    let mut to = at;
+    let mut i = 0;
+    while i < words.len() {
+        to = put_field(out, to, words[i], 16);
+        i += 1;
+    }
+    to
+}
+
+// A refusal by its number, which is 1, or 16, 17 or 18 in two hexadecimal digits.
 pub fn put_refused(out: &mut [u8], at: usize, number: u8) -> usize {
     let to = put_text(out, at, b" refused");
     if number < 16 {

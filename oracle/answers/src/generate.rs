@@ -597,6 +597,264 @@ pub fn every_refusal(out: &mut String, often: bool) {
     }
 }
 
+/// Numbers at which a count's conversion rounds or turns, and the last ones that there are.
+const COUNTS: [u64; 30] = [
+    0, 1, 2, 3, 10, 255, (1 << 23) - 1, 1 << 23, (1 << 24) - 1, 1 << 24, (1 << 24) + 1, (1 << 24) + 2, (1 << 24) + 3, (1 << 25) + 2, (1 << 25) + 3,
+    (1 << 25) + 6, (1 << 40) + (1 << 16), (1 << 40) + (1 << 16) + 1, 1 << 53, (1 << 53) + 1, (1 << 63) - 1, 1 << 63, (1 << 63) + (1 << 39),
+    (1 << 63) + (1 << 39) + 1, (1 << 63) + (3 << 39), u64::MAX - (1 << 39), u64::MAX - (1 << 39) + 1, u64::MAX - 2, u64::MAX - 1, u64::MAX,
+];
+
+/// A histogram of each of the sizes: half of the bytes observed and every byte asked for, then the other half observed, and a reset.
+pub fn every_bin(out: &mut String, sizes: impl IntoIterator<Item = u64>) {
+    let thresholds = [0u64, 0x3F80_0000, 0x3B80_0000, 0x3C00_0000, 0x3C00_0001, 0x3D80_0000, 0x7F80_0000, 0x7FC0_0000];
+    for size in sizes {
+        let observed = |out: &mut String, half: u64| {
+            for value in (0..256).filter(|v| (v ^ v >> 3 ^ size) % 2 == half) {
+                let _ = writeln!(out, "O {size:X} {value:X}");
+            }
+        };
+        let _ = writeln!(out, "N {size:X} {size:X}\nP {size:X} 0\nJ {size:X} 0 7F800000");
+        observed(out, 0);
+        for value in 0..256u64 {
+            let threshold = thresholds[((value + size) % 8) as usize];
+            let _ = writeln!(out, "P {size:X} {value:X}\nJ {size:X} {value:X} {threshold:X}");
+        }
+        observed(out, 1);
+        let _ = writeln!(out, "J {size:X} 0 7F800000\nJ {size:X} FF 3C000000\nH 10C\nS\nR {size:X}\nJ {size:X} 0 7F800000\nH 10");
+    }
+}
+
+/// A Markov model of each of the sizes: pairs that have every byte on each side observed and asked for, and a reset.
+pub fn every_state(out: &mut String, sizes: impl IntoIterator<Item = u64>) {
+    for size in sizes {
+        let lent = format!("{:X} {size:X}", size * size);
+        let _ = writeln!(out, "A {size:X} {lent}\nQ {lent} 0 0");
+        for from in 0..256u64 {
+            let to = (37 * from + size) % 256;
+            let _ = writeln!(out, "B {lent} {from:X} {to:X}\nQ {lent} {from:X} {:X}", if from % 2 == 0 { to } else { to ^ 1 });
+        }
+        let _ = writeln!(out, "K 46 46\nY\nX {lent}\nQ {lent} 0 0\nK 10 10");
+    }
+}
+
+/// Every call on a histogram that is lent so many counts. A model is placed before each: of the size, and with a total, seen bytes and no flag.
+fn histogram_calls(out: &mut String, size: u64, lent: u64) {
+    let placed = format!("V {size:X} 9 8001 0 0 8000000000000001 0");
+    let _ = writeln!(out, "{placed}\nO {lent:X} 7F\nP {lent:X} 0\nJ {lent:X} 1 0\nJ {lent:X} FF 3F800000\nS\nR {lent:X}\nS\n{placed}\nN {size:X} {lent:X}\nS");
+}
+
+/// Every call on a Markov model that is lent so many transitions and row totals.
+fn markov_calls(out: &mut String, size: u64, cells: u64, rows: u64) {
+    let lent = format!("{cells:X} {rows:X}");
+    let _ = writeln!(out, "W {size:X} 1\nB {lent} 40 FF\nQ {lent} 0 0\nY\nX {lent}\nY\nW {size:X} 1\nA {size:X} {lent}\nY");
+}
+
+/// Every count of every buffer placed, and places behind their ends.
+pub fn every_count(out: &mut String) {
+    for (letter, counts) in [("C", 300), ("T", 4200), ("U", 100)] {
+        for i in (0..counts + 2).chain([u64::MAX]) {
+            let _ = writeln!(out, "{letter} {i:X} {:X}", i % 11 + 1);
+        }
+    }
+    out.push_str("H 12B\nH FFFFFFFFFFFFFFFF\nK 10 63\nK 400 FFFFFFFFFFFFFFFF\n");
+}
+
+/// Sizes that there are none of: of bins, and of states some whose square wraps to a length that there is.
+pub const NO_BINS: [u64; 13] = [0, 257, 300, 258, 299, 301, 512, 1 << 32, (1 << 32) + 1, (1 << 32) + 256, 1 << 63, u64::MAX - 255, u64::MAX];
+pub const NO_STATES: [u64; 16] = [
+    0, 65, 1 << 32, 66, 100, 101, 255, 1 << 31, (1 << 32) + 1, (1 << 32) + 64, 1 << 33, 1 << 63, (1 << 63) + 1, (1 << 63) + 64, u64::MAX - 63, u64::MAX,
+];
+
+/// Every call at sizes that there are none of, each with lent lengths of every kind.
+pub fn wrong_sizes(out: &mut String, bins: &[u64], states: &[u64]) {
+    for &size in bins {
+        for lent in [size, 0, 1, 255, 256, 257, 300] {
+            histogram_calls(out, size, lent);
+        }
+    }
+    for &size in states {
+        for (cells, rows) in [(size.wrapping_mul(size), size), (0, 0), (1, 1), (4096, 64), (4200, 100), (4200, size), (size, size)] {
+            markov_calls(out, size, cells, rows);
+        }
+    }
+}
+
+/// Lent lengths that don't fit a size that there is: one less, one more, none, and all.
+pub fn wrong_lengths(out: &mut String, bins: impl IntoIterator<Item = u64>, states: impl IntoIterator<Item = u64>) {
+    for size in bins {
+        for lent in [size - 1, size + 1, 0, u64::MAX] {
+            histogram_calls(out, size, lent);
+        }
+        histogram_calls(out, size, size);
+    }
+    for size in states {
+        let all = size * size;
+        for (cells, rows) in [(all - 1, size), (all + 1, size), (0, size), (u64::MAX, size), (all, size - 1), (all, size + 1), (all, 0), (all, u64::MAX), (size, all)] {
+            markov_calls(out, size, cells, rows);
+        }
+        markov_calls(out, size, all, size);
+    }
+}
+
+/// Every kind of threshold: for ratios of every kind, for a byte that was not seen, with nothing observed, and with the flag.
+pub fn thresholds(out: &mut String) {
+    let states = [
+        (0u64, 1u64, 1, 0), (1, 1, 1, 0), (1, 2, 1, 0), (1, 10, 1, 0), (3, 1, 1, 0), (1, 1 << 24, 1, 0), (u64::MAX, 1, 1, 0), (1, u64::MAX, 1, 0), (5, 10, 0, 0),
+        (0, 0, 1, 0), (7, 0, 1, 0), (7, 0, 0, 0), (1, 10, 1, 1), (1, 10, 0, 1), (0, 0, 0, 1),
+    ];
+    for (i, (count, total, seen, flag)) in states.into_iter().enumerate() {
+        let size = [256, 16, 100][i % 3];
+        let _ = writeln!(out, "V {size:X} {total:X} 0 {:X} 0 0 {flag}\nC {:X} {count:X}\nP {size:X} 47", seen << 7, 0x47 % size);
+        for threshold in FLOATS {
+            let _ = writeln!(out, "J {size:X} 47 {threshold:X}");
+        }
+    }
+}
+
+/// Counters that come to 2^64-1, one or both, or are there: with the flag and without, observed over the border, asked for, and reset. For a histogram a size and
+/// a byte, for a Markov model a size and two.
+pub fn full_counters(out: &mut String, bins: &[(u64, u64)], states: &[(u64, u64, u64)]) {
+    let last = [u64::MAX - 3, u64::MAX - 2, u64::MAX - 1, u64::MAX];
+    let cases = last.into_iter().flat_map(|a| last.into_iter().chain([5, (1 << 63) - 1]).flat_map(move |b| [(a, b, 0), (b, a, 0), (a, b, 1)]));
+    for (count, total, flag) in cases {
+        for &(size, value) in bins {
+            let _ = writeln!(out, "V {size:X} {total:X} 1 0 0 0 {flag}\nC {:X} {count:X}\nJ {size:X} 0 7F800000\nJ {size:X} 61 0", value % size);
+            for _ in 0..3 {
+                let _ = writeln!(out, "O {size:X} {value:X}\nS\nJ {size:X} {value:X} 7F800000\nJ {size:X} 62 0\nP {size:X} {value:X}");
+            }
+            let _ = writeln!(out, "R {size:X}\nO {size:X} {value:X}\nJ {size:X} {value:X} 7F800000");
+        }
+        for &(size, from, to) in states {
+            let lent = format!("{:X} {size:X}", size * size);
+            let (row, column) = (from % size, to % size);
+            let _ = writeln!(out, "W {size:X} {flag}\nT {:X} {count:X}\nU {row:X} {total:X}\nQ {lent} {from:X} {to:X}", row * size + column);
+            for _ in 0..3 {
+                let _ = writeln!(out, "B {lent} {from:X} {to:X}\nY\nQ {lent} {from:X} {to:X}");
+            }
+            let _ = writeln!(out, "X {lent}\nB {lent} {to:X} {from:X}\nQ {lent} {to:X} {from:X}");
+        }
+    }
+}
+
+/// Counts and totals of every kind, most of which no observations make: above the total, of a total of 0, and rounded on either side. The threshold is the ratio
+/// and then the next number above it. `step` leaves some of the totals out.
+pub fn ratios(out: &mut String, step: usize) {
+    for (i, count) in COUNTS.into_iter().enumerate() {
+        let _ = writeln!(out, "C 1 {count:X}\nW 3 0\nT 5 {count:X}");
+        for total in COUNTS.into_iter().skip(i % step).step_by(step) {
+            let ratio = (count as f32 / total as f32).to_bits();
+            let _ = writeln!(out, "V 3 {total:X} 0 1 0 0 0\nP 3 40\nJ 3 40 {ratio:X}\nJ 3 40 {:X}\nU 1 {total:X}\nQ 9 3 40 5", ratio + 1);
+        }
+    }
+}
+
+fn any_count(d: &mut Dice) -> u64 {
+    match d.below(5) {
+        0 => d.of(&COUNTS),
+        1 => u64::MAX - d.below(4),
+        2 => d.next() >> d.below(64),
+        _ => d.below(40),
+    }
+}
+
+/// A size up to `most`, which is a power of two, or now and then one that there is none of.
+fn any_size(d: &mut Dice, most: u64) -> u64 {
+    match d.below(12) {
+        0 if d.one_in(3) => d.of(&[0, most + 1, most + 2, 1 << 32, u64::MAX]),
+        1 | 2 => d.of(&[1, 2, 3, most - 1, most]),
+        3 | 4 => most >> d.below(most.trailing_zeros() as u64 + 1),
+        _ => 1 + d.below(most),
+    }
+}
+
+/// The lent length that fits, or now and then another.
+fn any_lent(d: &mut Dice, fits: u64) -> u64 {
+    match d.below(30) {
+        0 => d.of(&[0, fits.wrapping_sub(1), fits.wrapping_add(1), fits.wrapping_mul(2), 300, u64::MAX]),
+        _ => fits,
+    }
+}
+
+fn any_threshold(d: &mut Dice) -> u64 {
+    match d.below(4) {
+        0 => any_float(d),
+        1 => d.of(&FLOATS),
+        _ => (d.below(20) as f32 / (1 + d.below(40)) as f32).to_bits() as u64,
+    }
+}
+
+fn any_histogram(out: &mut String, d: &mut Dice, size: u64) {
+    let seen = if d.one_in(2) { [d.next(), d.next(), d.next(), d.next()] } else { [d.next() >> 60, 0, 1 << d.below(64), u64::MAX] };
+    let _ = writeln!(out, "V {size:X} {:X} {:X} {:X} {:X} {:X} {}", any_count(d), seen[0], seen[1], seen[2], seen[3], d.one_in(6) as u8);
+}
+
+/// One histogram, made or placed, and calls on it.
+fn one_histogram(out: &mut String, d: &mut Dice, calls: u64) {
+    let size = any_size(d, 256);
+    if d.one_in(4) {
+        any_histogram(out, d, size);
+    } else {
+        let _ = writeln!(out, "N {size:X} {:X}", any_lent(d, size));
+    }
+    let usual = [d.below(256), d.below(256), d.below(256), d.below(256)];
+    for _ in 0..calls {
+        let lent = any_lent(d, size);
+        let value = if d.one_in(4) { d.below(256) } else { d.of(&usual) };
+        let _ = match d.below(64) {
+            0 => {
+                any_histogram(out, d, size);
+                Ok(())
+            }
+            1 | 2 => writeln!(out, "C {:X} {:X}", if d.one_in(4) { d.below(310) } else { value % size.max(1) }, any_count(d)),
+            3 => writeln!(out, "S"),
+            4 => writeln!(out, "R {lent:X}"),
+            5 => writeln!(out, "H {:X}", d.below(20)),
+            6 => writeln!(out, "N {size:X} {lent:X}"),
+            7..=17 => writeln!(out, "P {lent:X} {value:X}"),
+            18..=35 => writeln!(out, "J {lent:X} {value:X} {:X}", any_threshold(d)),
+            _ => writeln!(out, "O {lent:X} {value:X}"),
+        };
+    }
+}
+
+/// One Markov model, made or placed, and calls on it.
+fn one_markov(out: &mut String, d: &mut Dice, calls: u64) {
+    let size = any_size(d, 64);
+    let all = size.wrapping_mul(size);
+    let _ = if d.one_in(4) { writeln!(out, "W {size:X} {}", d.one_in(4) as u8) } else { writeln!(out, "A {size:X} {:X} {:X}", any_lent(d, all), any_lent(d, size)) };
+    let usual = [d.below(256), d.below(256), d.below(256)];
+    for _ in 0..calls {
+        let lent = format!("{:X} {:X}", any_lent(d, all), any_lent(d, size));
+        let (from, to) = if d.one_in(3) { (d.below(256), d.below(256)) } else { (d.of(&usual), d.of(&usual)) };
+        let _ = match d.below(64) {
+            0 => writeln!(out, "W {size:X} {}", d.one_in(4) as u8),
+            1 => writeln!(out, "T {:X} {:X}", if d.one_in(4) { d.below(4210) } else { from % size.max(1) * size.min(64) + to % size.max(1) }, any_count(d)),
+            2 => writeln!(out, "U {:X} {:X}", if d.one_in(4) { d.below(110) } else { from % size.max(1) }, any_count(d)),
+            3 => writeln!(out, "Y"),
+            4 => writeln!(out, "X {lent}"),
+            5 => writeln!(out, "K {:X} {:X}", d.below(20), d.below(20)),
+            6 => writeln!(out, "A {size:X} {lent}"),
+            7..=31 => writeln!(out, "Q {lent} {from:X} {to:X}"),
+            _ => writeln!(out, "B {lent} {from:X} {to:X}"),
+        };
+    }
+}
+
+/// Calls on the two models at random: most are lent what fits, and now and then a model or a count is placed.
+pub fn models(out: &mut String, d: &mut Dice, calls: usize) {
+    let mut left = calls as i64;
+    while left > 0 {
+        let most = d.of(&[80, 80, 80, 800]);
+        let steps = 1 + d.below(most);
+        if d.one_in(3) {
+            one_markov(out, d, steps);
+        } else {
+            one_histogram(out, d, steps);
+        }
+        left -= steps as i64;
+    }
+}
+
 fn push_definition(log: &mut Vec<u8>, d: &mut Dice, ids: &[u64], wild: bool) {
     let text = definition(d, ids, wild);
     let f: Vec<u64> = text.split(' ').map(|x| u64::from_str_radix(x, 16).expect("a number")).collect();

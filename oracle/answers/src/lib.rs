@@ -4,6 +4,8 @@ pub mod framelog;
 pub mod generate;
 pub mod host;
 pub mod model;
+pub mod models;
+pub mod sizes;
 pub mod unchanged;
 
 use std::fmt::Write;
@@ -124,11 +126,12 @@ pub fn definition(d: &SignalDefinition) -> String {
     )
 }
 
-/// Both machines on one script: the Rust's answers, and the model's on lines of their own.
+/// All machines on one script: the Rust's answers, and the model's on lines of their own; on models of bytes the Rust's, held to a plain model.
 #[derive(Default)]
 pub struct Both {
     unchanged: unchanged::Machine,
     model: model::Machine,
+    models: models::Machine,
 }
 
 impl Both {
@@ -144,5 +147,15 @@ impl Both {
             out.push_str(&text);
             out.push('\n');
         }
+        let (letter, mut fields) = Fields::of(line);
+        if let Some(text) = self.models.answer(letter, &mut fields) {
+            out.push_str(&text);
+            out.push('\n');
+        }
+    }
+
+    /// What there was of models of bytes.
+    pub fn seen(&self) -> models::Seen {
+        self.models.seen
     }
 }

@@ -1,14 +1,14 @@
 //! Holds the two programs beside the Rust: scripts of library calls, and logs. Stops at the first difference, which it makes small.
 
-use answers::{framelog, generate as g, Both};
+use answers::{framelog, generate as g, models, Both};
 use std::fs::File;
 use std::io::{BufWriter, Write};
 use std::path::{Path, PathBuf};
 use std::process::{exit, Command, Stdio};
 use std::time::{Duration, Instant};
 
-/// What a run is asked for. `at_least` is how many calls, logs, keys alone, remote frames both in calls and in logs, and cases of each reason for no value it
-/// has to have compared at its end; `emulator` are the words before a program, where the machine can't run one by itself.
+/// What a run is asked for. `at_least` is how many calls, logs, keys alone, remote frames both in calls and in logs, cases of each reason for no value, and
+/// calls on models of bytes it has to have compared at its end; `emulator` are the words before a program, where the machine can't run one by itself.
 #[derive(Default)]
 struct Asked {
     seconds: Option<u64>,
@@ -17,11 +17,11 @@ struct Asked {
     every: usize,
     pack: Option<PathBuf>,
     seed: u64,
-    at_least: [u64; 5],
+    at_least: [u64; 6],
     emulator: Vec<String>,
 }
 
-const USAGE: &str = "usage: compare [--seconds N] [--cases N] [--logs N [--every N] [--pack FILE]] [--seed N] [--at-least CALLS LOGS KEYS REMOTE REASON] [--emulator WORDS]";
+const USAGE: &str = "usage: compare [--seconds N] [--cases N] [--logs N [--every N] [--pack FILE]] [--seed N] [--at-least CALLS LOGS KEYS REMOTE REASON MODELS] [--emulator WORDS]";
 
 fn asked(words: &[String]) -> Option<Asked> {
     let mut a = Asked { every: 1, seed: 1, ..Default::default() };
@@ -34,7 +34,7 @@ fn asked(words: &[String]) -> Option<Asked> {
             "--logs" => a.logs = Some(number()?),
             "--every" => a.every = number().filter(|n| *n > 0)? as usize,
             "--seed" => a.seed = number()?,
-            "--at-least" => a.at_least = [number()?, number()?, number()?, number()?, number()?],
+            "--at-least" => a.at_least = [number()?, number()?, number()?, number()?, number()?, number()?],
             "--pack" => a.pack = Some(PathBuf::from(words.next()?)),
             "--emulator" => a.emulator = words.next()?.split_whitespace().map(String::from).collect(),
             _ => return None,
@@ -65,12 +65,17 @@ impl Program {
 }
 
 fn answers_of(script: &str) -> String {
+    answers_and_seen(script).0
+}
+
+/// The answers to a script, and what there was in it of models of bytes.
+fn answers_and_seen(script: &str) -> (String, models::Seen) {
     let mut both = Both::default();
     let mut out = String::new();
     for line in script.lines() {
         both.answer(line, true, &mut out);
     }
-    out
+    (out, both.seen())
 }
 
 /// What is printed for a log, and how many of its sound records are remote frames.
@@ -224,14 +229,16 @@ struct Bench {
     remote_calls: u64,
     remote_records: u64,
     reasons: Reasons,
+    models: models::Seen,
 }
 
 impl Bench {
     fn script(&mut self, script: &str) {
         self.calls += script.lines().count() as u64;
         self.remote_calls += script.lines().filter(|l| is_remote(l)).count() as u64;
-        let answers = answers_of(script);
+        let (answers, seen) = answers_and_seen(script);
         self.reasons.add(&answers);
+        self.models.add(seen);
         if self.replay.output(script.as_bytes(), &self.scratch) == answers.as_bytes() {
             return;
         }
@@ -310,6 +317,23 @@ impl Bench {
         for cut in 0..=whole.len() {
             self.log(&whole[..cut], 24);
         }
+        self.fixed_models();
+    }
+
+    /// The cases on models of bytes that are the same in every run: every size, and every border of one.
+    fn fixed_models(&mut self) {
+        let mut out = String::new();
+        g::every_bin(&mut out, 1..=256);
+        self.script(&out);
+        out.clear();
+        g::every_state(&mut out, 1..=64);
+        g::every_count(&mut out);
+        g::wrong_sizes(&mut out, &g::NO_BINS, &g::NO_STATES);
+        g::wrong_lengths(&mut out, 1..=256, 1..=64);
+        g::thresholds(&mut out);
+        g::full_counters(&mut out, &[(1, 0), (2, 255), (16, 71), (255, 255), (256, 255)], &[(1, 0, 0), (2, 255, 254), (7, 200, 100), (64, 255, 63)]);
+        g::ratios(&mut out, 1);
+        self.script(&out);
     }
 
     fn round(&mut self, seed: u64) {
@@ -332,6 +356,9 @@ impl Bench {
         for _ in 0..40 {
             self.damaged(&mut d);
         }
+        let mut on_models = String::new();
+        g::models(&mut on_models, &mut g::Dice::new(seed.wrapping_add(1 << 32)), 20_000);
+        self.script(&on_models);
     }
 
     /// A short log that came in damaged.
@@ -376,6 +403,8 @@ impl Bench {
             let [[a, b, _], [c, d, _], [e, f, g], [h, i, j]] = self.reasons.0;
             println!("refused by 1 and 16: extract_raw {a} {b}, extract_signal_raw {c} {d}; by 1, 16 and 17: extract_signal {e} {f} {g}");
             println!("outcomes condition not met, outside and not finite: {h} {i} {j}");
+            let cases: Vec<String> = models::NAMES.iter().zip(self.models.cases).map(|(name, n)| format!("{name} {n}")).collect();
+            println!("calls on models {}: {}", self.models.calls, cases.join(", "));
         }
         let _ = std::io::stdout().flush();
     }
@@ -391,7 +420,7 @@ fn main() {
     let scratch = std::env::temp_dir().join(format!("compare-{}", std::process::id()));
     let pack = asked.pack.map(|file| BufWriter::new(File::create(file).expect("the pack is made")));
     let program = |name| Program::new(&asked.emulator, &bin.join(name));
-    let mut b = Bench { replay: program("replay"), framelog: program("framelog"), scratch, pack, calls: 0, records: 0, logs: 0, isolated: 0, remote_calls: 0, remote_records: 0, reasons: Reasons::default() };
+    let mut b = Bench { replay: program("replay"), framelog: program("framelog"), scratch, pack, calls: 0, records: 0, logs: 0, isolated: 0, remote_calls: 0, remote_records: 0, reasons: Reasons::default(), models: models::Seen::default() };
     let since = Instant::now();
     let mut said = since;
     if let Some(n) = asked.logs {
@@ -423,13 +452,14 @@ fn main() {
     }
     println!("seeds {} to {}", asked.seed, seed.max(asked.seed + 1) - 1);
     let _ = std::fs::remove_file(&b.scratch);
-    let [calls, logs, keys, remote, reason] = asked.at_least;
-    if b.calls < calls || b.logs < logs || b.isolated < keys || b.remote_calls.min(b.remote_records) < remote || b.reasons.least() < reason {
-        println!("FEWER than the {calls} calls, {logs} logs, {keys} keys alone, {remote} remote frames in calls and in logs, and {reason} cases of each reason that were asked for");
+    let [calls, logs, keys, remote, reason, on_models] = asked.at_least;
+    let fewer = b.calls < calls || b.logs < logs || b.isolated < keys || b.remote_calls.min(b.remote_records) < remote;
+    if fewer || b.reasons.least() < reason || b.models.calls < on_models {
+        println!("FEWER than the {calls} calls, {logs} logs, {keys} keys alone, {remote} remote frames in calls and in logs, {reason} cases of each reason and {on_models} calls on models that were asked for");
         exit(1);
     }
-    if b.calls > 0 && b.reasons.least() == 0 {
-        println!("NOT SEEN: one of the reasons for no value");
+    if b.calls > 0 && b.reasons.least().min(b.models.least()) == 0 {
+        println!("NOT SEEN: one of the reasons for no value, or one of the cases of models");
         exit(1);
     }
 }

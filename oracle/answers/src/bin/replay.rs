@@ -1,5 +1,5 @@
-//! Answers a script of calls on standard input: the unchanged Rust, with the plain model's number where extraction has none, and on lines of their own (`w`,
-//! `v`, `p`, `l`) the model. With `--rust` those lines are left out.
+//! Answers a script of calls on standard input: the unchanged Rust, with the plain model's number where extraction has none or a model of bytes refuses, and
+//! on lines of their own (`w`, `v`, `p`, `l`) the model. With `--rust` those lines are left out.
 
 use answers::Both;
 use std::io::{BufRead, BufWriter, Write};

@@ -20,5 +20,13 @@ fn main() {
     g::one_engine(&mut out, &mut d, 30, true);
     g::remotes(&mut out, &[0, 1, 2, 3, 4, 5, 6, 7, 8, 9, 10, 11, 12, 13, 14, 15, 255]);
     g::reasons(&mut out, &[8], 5);
+    g::every_bin(&mut out, [7]);
+    g::every_state(&mut out, [5]);
+    g::wrong_sizes(&mut out, &g::NO_BINS[..3], &g::NO_STATES[..3]);
+    g::wrong_lengths(&mut out, [1, 16, 256], [1, 64]);
+    g::thresholds(&mut out);
+    g::full_counters(&mut out, &[(7, 255)], &[]);
+    g::ratios(&mut out, 11);
+    g::models(&mut out, &mut g::Dice::new(4), 600);
     print!("{out}");
 }

@@ -1,0 +1,10 @@
+pub mod Fits
+pub mod Counting
+pub mod Places
+pub mod Marks
+pub mod Parts
+pub mod Between
+pub mod Determined
+pub mod Refusals
+pub mod Histories
+pub mod Chains

@@ -357,21 +357,25 @@ impl HistogramDetector {
     }
 
     // Whether a byte is anomalous: not where the model is saturated or empty, and else where it was never seen or its bin is below the threshold.
+    // The map and the bin are looked up first, so that the compiler need not look again in a host's `observe` of the same byte.
     fn flags(self, counts: &[u64], value: u8, threshold: f32) -> bool
         requires { ⌜ binsFit (self .size) (length (now counts)) ≡ true ⌝ }
         ensures { λ r. ⌜ r ≡ anomalous self (now (counts .entry)) value threshold ⌝ }
     {
+        let seen = self.seen;
+        let known = seen.has(value);
+        let i = index(value, self.size);
+        let count = counts[i];
         if self.saturated {
             return false;
         }
         if self.total == 0 {
             return false;
         }
-        let seen = self.seen;
-        if !seen.has(value) {
+        if !known {
             return true;
         }
-        self.bin_ratio(counts, value) < threshold
+        ratio_of(count, self.total) < threshold
     }
 
     // The same, or refusal 18.

@@ -1,5 +1,5 @@
 #!/usr/bin/env python3
-"""Writes the example logs beside this file: document01.log, larger.log, empty.log, remote_*.log and damaged/*.log.
+"""Writes the example logs beside this file: document01.log, larger.log, empty.log, remote_*.log, fd_*.log and damaged/*.log.
 What framelog must print for each is the .out file of the same name."""
 import os
 import struct
@@ -9,6 +9,8 @@ HERE = os.path.dirname(os.path.abspath(__file__))
 EXTENDED, MOTOROLA, SIGNED, MULTIPLEXOR, CONDITION = 1, 2, 4, 8, 16
 # of a frame, beside EXTENDED
 REMOTE = 2
+# the lengths that an FD frame has in a log
+FD_LENGTHS = (0, 1, 2, 3, 4, 5, 6, 7, 8, 12, 16, 20, 24, 32, 48, 64)
 
 
 def settings(alpha=0.5, threshold=3.0):
@@ -26,6 +28,22 @@ def remove(slot):
 def frame(can_id, data, length=None, flags=0):
     length = len(data) if length is None else length
     return b"\xa5\x46" + struct.pack("<BBI", flags, length, can_id) + bytes(data).ljust(8, b"\0")
+
+
+def fd_frame(can_id, data, length=None, flags=0):
+    length = len(data) if length is None else length
+    return b"\xa5\x58" + struct.pack("<BBI", flags, length, can_id) + bytes(data).ljust(64, b"\0")
+
+
+def place(data, start, length, flags, raw):
+    """Writes a raw number bit by bit, the lowest first: Intel goes up from the start, Motorola has the highest bit there and goes down in each byte."""
+    top = 8 * (start // 8) + 7 - start % 8
+    for i in range(length):
+        if flags & MOTOROLA:
+            byte, bit = (top + length - 1 - i) // 8, 7 - (top + length - 1 - i) % 8
+        else:
+            byte, bit = (start + i) // 8, (start + i) % 8
+        data[byte] = data[byte] & ~(1 << bit) | (raw >> i & 1) << bit
 
 
 def document01():
@@ -155,6 +173,90 @@ def remote_between():
     yield frame(0x300, [1, 0])
 
 
+def fd_lengths():
+    """FD frames of every length, of both types. A signal needs each of the lengths, and is flagged in the frame of that length; bytes behind it are far off."""
+    yield settings()
+    for flags in (0, EXTENDED):
+        for length in FD_LENGTHS[1:]:
+            yield define(0x100, 8 * (length - 1), 8, flags=flags)
+        for _ in range(5):
+            yield fd_frame(0x100, [0] * 64, flags=flags)
+        for length in FD_LENGTHS:
+            data = [0] * (length - 1) + [1] * (length > 0) + [200] * (64 - length)
+            yield fd_frame(0x100, data, length=length, flags=flags)
+
+
+def fd_signals():
+    """Signals across byte 8 and up to the last bit of 64 bytes in both byte orders, each flagged once; frames of 48 bytes and of 8 have fewer of them."""
+    signals = (
+        (60, 8, 0), (59, 8, MOTOROLA), (76, 64, SIGNED), (163, 64, MOTOROLA | SIGNED), (300, 12, SIGNED), (327, 10, MOTOROLA), (367, 16, MOTOROLA | SIGNED),
+        (448, 32, 0), (487, 16, MOTOROLA), (496, 8, 0), (511, 4, MOTOROLA), (504, 4, 0),
+    )
+    yield settings(0.25, 4.0)
+    for k, (start, length, flags) in enumerate(signals):
+        yield define(0x200, start, length, 0.5 * (k + 1), -10.0, flags)
+    # the last bit alone, read as either order, and two signals that end behind it and never have a value
+    for start, length, flags in ((511, 1, 0), (504, 1, MOTOROLA), (505, 8, 0), (510, 8, MOTOROLA)):
+        yield define(0x200, start, length, flags=flags)
+    for k in range(44):
+        data = [0] * 64
+        for i, (start, length, flags) in enumerate(signals):
+            far = k == 10 + 3 * i
+            raw = -3 if flags & SIGNED else 4
+            place(data, start, length, flags, raw + (k + i) % 3 - 1 + (8 if far else 0))
+        yield fd_frame(0x200, data, length={3: 48, 6: 8}.get(k % 9, 64))
+
+
+def fd_multiplexors():
+    """A multiplexor in byte 40, and signals before and behind it at each of its numbers. In frames that end before it no condition is met, 0 neither."""
+    places = {0: (60, 0), 1: (336, 0), 2: (511, MOTOROLA), 255: (8, 0)}
+
+    def sent(number, value, length=64, flags=0):
+        data = [0] * 64
+        for start, order in places.values():
+            place(data, start, 8, order, value)
+        data[40] = number
+        return fd_frame(0x300, data, length=length, flags=flags)
+
+    yield settings()
+    for flags in (0, EXTENDED):
+        yield define(0x300, 320, 8, flags=flags | MULTIPLEXOR)
+        for number, (start, order) in places.items():
+            yield define(0x300, start, 8, flags=flags | order | CONDITION, condition=number)
+        for _ in range(5):
+            for number in places:
+                yield sent(number, 10, flags=flags)
+    # byte 40 is outside, then byte 63 is, and then a classic frame has the number in its first byte
+    for number in places:
+        yield sent(number, 200, length=32)
+        yield sent(number, 10, length=48)
+        yield frame(0x300, [number] + [200] * 7)
+    for number in places:
+        yield sent(number, 200, flags=EXTENDED)
+        yield sent(number, 200)
+
+
+def fd_between():
+    """Classic and FD frames of one key by turns, which share detectors, and remote frames between them. The signals at byte 8 have a value in FD frames alone:
+    a classic frame has eight bytes, also if its length is 9 to 15."""
+    yield settings(0.5, 2.0)
+    for flags in (0, EXTENDED):
+        yield define(0x300, 0, 16, 0.5, -10.0, flags)
+        yield define(0x300, 64, 8, flags=flags)
+        yield define(0x300, 60, 8, flags=flags)
+    for k in range(28):
+        value = 100 + k % 3 + (50 if k in (12, 15, 25) else 0)
+        data = [value, 0, 0, 0, 0, 0, 0, 0x40, 0x64 + k // 2 % 2 + (0x18 if k in (16, 26) else 0)]
+        for flags in (0, EXTENDED):
+            if k % 2 == 0:
+                yield fd_frame(0x300, data + [0xFF] * 3, flags=flags)
+            else:
+                yield frame(0x300, data[:8], length=8 + k // 2 % 8, flags=flags)
+            if k % 4 == 1:
+                yield frame(0x300, [0xFF] * 8, length=k % 16, flags=flags | REMOTE)
+                yield fd_frame(0x300, [0xFF] * 64, length=0, flags=flags)
+
+
 GOOD = b"".join(document01())
 
 DAMAGED = {
@@ -197,6 +299,19 @@ DAMAGED = {
     # frame lengths
     "frame_length_16": GOOD + frame(0x100, [0], length=16),
     "frame_length_255": GOOD + frame(0x100, [0], length=255),
+    # FD frames: flags, then lengths, of which 9 to 15 but for 12 are none of theirs; a cut and the place are found before
+    "fd_flag_2": GOOD + fd_frame(0x100, [0], flags=2),
+    "fd_flag_4": GOOD + fd_frame(0x100, [0], flags=4),
+    "fd_flag_128": GOOD + fd_frame(0x100, [0], flags=128),
+    "fd_flag_3_and_length_10": GOOD + fd_frame(0x100, [0], length=10, flags=3),
+    "fd_length_9": GOOD + fd_frame(0x100, [0], length=9),
+    "fd_length_10": GOOD + fd_frame(0x100, [0], length=10),
+    "fd_length_15": GOOD + fd_frame(0x100, [0], length=15),
+    "fd_length_65": GOOD + fd_frame(0x100, [0], length=65),
+    "fd_length_255": GOOD + fd_frame(0x100, [0], length=255),
+    "fd_cut": GOOD + fd_frame(0x100, [0], length=255, flags=255)[:-1],
+    "fd_first": fd_frame(0x100, [0], length=255, flags=255),
+    "fd_first_cut": fd_frame(0x100, [0], length=255, flags=255)[:-1],
     # settings that no detector takes
     "alpha_zero": settings(0.0),
     "alpha_negative_zero": settings(-0.0),
@@ -208,6 +323,10 @@ DAMAGED = {
     "settings_alone": settings(),
     "alpha_one": settings(1.0, 0.0) + GOOD[10:],
     "frame_length_15": GOOD + frame(0x100, [9], length=15),
+    "fd_extended": GOOD + fd_frame(0x100, [9], flags=EXTENDED),
+    "fd_length_0": GOOD + fd_frame(0x100, [9], length=0),
+    "fd_length_64": GOOD + fd_frame(0x100, [9] * 64),
+    "fd_bytes_after_the_length": GOOD + fd_frame(0x100, [9] + [255] * 63, length=1),
     "condition_zero": settings() + define(0x100, 0, 8, flags=CONDITION) + define(0x100, 0, 4, flags=MULTIPLEXOR) + frame(0x100, [0]),
 }
 
@@ -220,7 +339,7 @@ def write(name, data):
 write("document01.log", GOOD)
 write("larger.log", b"".join(larger()))
 write("empty.log", b"")
-for made in (remote_lengths, remote_multiplexors, remote_between):
+for made in (remote_lengths, remote_multiplexors, remote_between, fd_lengths, fd_signals, fd_multiplexors, fd_between):
     write(f"{made.__name__}.log", b"".join(made()))
 os.makedirs(os.path.join(HERE, "damaged"), exist_ok=True)
 for name, data in DAMAGED.items():

@@ -92,8 +92,9 @@ fn engine_of(alpha: f32, threshold: f32, definitions: &[u8]) -> SignalIdsEngine 
 }
 
 fn frame_of(s: &[u8]) -> CanFrame {
-    let data = [s[8], s[9], s[10], s[11], s[12], s[13], s[14], s[15]];
-    CanFrame { id: u32_at(s, 4), is_extended: s[2] & 1 != 0, is_remote: s[2] & 2 != 0, length: s[3], data }
+    let mut data = [0; 64];
+    data[..8].copy_from_slice(&s[8..16]);
+    CanFrame { id: u32_at(s, 4), is_extended: s[2] & 1 != 0, is_remote: s[2] & 2 != 0, is_fd: false, length: s[3], data }
 }
 
 fn mixed_anomalies(sum: u64, result: &SignalIdsResult) -> u64 {

@@ -7,4 +7,9 @@ pub mod look {
     pub fn row(e: &SignalIdsEngine, i: usize) -> (u16, SignalDefinition, EwmaDetector) {
         (e.slot_map[i], e.definitions[i], e.detectors[i])
     }
+
+    /// The same engine once more.
+    pub fn copy(e: &SignalIdsEngine) -> SignalIdsEngine {
+        SignalIdsEngine { ..*e }
+    }
 }

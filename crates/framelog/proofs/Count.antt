@@ -27,7 +27,7 @@ cost st = 2 * st .have + one (st .waiting) + one (st .ended)
 
 -- a state that reads has few bytes at hand, and the end was not told
 abbrev Open : State → Type 0
-Open st = st .waiting ≡ true → (st .have < 24) × (st .ended ≡ false)
+Open st = st .waiting ≡ true → (st .have < 72) × (st .ended ≡ false)
 
 -- ---- a step
 
@@ -87,7 +87,7 @@ joined (x ∷ xs) ys = omega (arith, length-append x (concat (xs ++ ys)), length
 abbrev Paid : {st : State} {input out : List ℕ} {r : State} {input′ out′ : List ℕ} → Turn st input out r input′ out′ → Type 0
 Paid {st} {r = r} w = (1 ≤ cost st) × (r .going ≡ true → (cost r + 1 ≤ cost st + 3 * length (concat (pieceOf w))) × Open r)
 
-paid : {st : State} {input out : List ℕ} {r : State} {input′ out′ : List ℕ} (w : Turn st input out r input′ out′) → 24 ≤ length input → 512 ≤ length out
+paid : {st : State} {input out : List ℕ} {r : State} {input′ out′ : List ℕ} (w : Turn st input out r input′ out′) → 72 ≤ length input → 512 ≤ length out
     → st .have ≤ length input → Open st → Paid w
 paid (unread v p) i o h free = (
   omega (arith, ap one v),
@@ -115,7 +115,7 @@ turn-then {st} {next} w ws c rest = go (next .going) refl
     go true q = omega (arith, rest q, c .1 q .0, joined (pieceOf w) (pieces ws))
     go false q = omega (arith, none-made ws q, c .0)
 
-pub few-turns : {st : State} {input out : List ℕ} {r : State} {input′ out′ : List ℕ} (ws : Turns st input out r input′ out′) → 24 ≤ length input → 512 ≤ length out
+pub few-turns : {st : State} {input out : List ℕ} {r : State} {input′ out′ : List ℕ} (ws : Turns st input out r input′ out′) → 72 ≤ length input → 512 ≤ length out
     → st .have ≤ length input → Open st → made ws ≤ cost st + 3 * length (concat (pieces ws))
 few-turns none i o h free = omega arith
 few-turns (then g w ws) i o h free =

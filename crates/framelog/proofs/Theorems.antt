@@ -15,7 +15,7 @@ use Rattle.framelog.proofs.Count.{few-turns}
 use Rattle.framelog.proofs.run.Reads as run
 
 -- the buffers have room for a record and for what it prints; the program's have 65,536 bytes
-module _ (κs : Lfts 2) (input out : _) (r : _) (x : _) (w : run.Learnt κs (input, (out, tt)) r x) (space : 24 ≤ length (now input)) (room : 512 ≤ length (now out)) where
+module _ (κs : Lfts 2) (input out : _) (r : _) (x : _) (w : run.Learnt κs (input, (out, tt)) r x) (space : 72 ≤ length (now input)) (room : 512 ≤ length (now out)) where
   abbrev pub ran : Ran (now input) (now out) (now (x .0)) (now (x .1 .0))
   ran = w
 

@@ -16,12 +16,14 @@ use Rattle.table.proofs.SignalIdsEngine.define_signals_batch.Reads as define-si
 use Rattle.table.proofs.SignalIdsEngine.remove_signal.Reads as remove-signal
 use Rattle.table.proofs.SignalIdsEngine.signal_count.Reads as signal-count
 use Rattle.table.proofs.SignalIdsEngine.next_slot.Reads as next-slot
+use Rattle.frames.specs.declared.FrameHeader.{FrameHeader}
 use Rattle.frames.specs.declared.CanFrame.{CanFrame}
 use Rattle.frames.specs.declared.Processed.{Processed}
-use Rattle.frames.specs.Frames.{Answered, resultMeans, Framed, processed, processedFrame}
+use Rattle.frames.specs.Frames.{frameWith, Answered, resultMeans, Framed, processed, processedFrame}
 use Rattle.frames.specs.Isolation.{Call, tabled, countAsked, nextAsked, framed, rawFramed, Said, gave, number, saw, said, after, answers, ran}
 use Rattle.frames.proofs.Determined.{processedFor, result-has, framed-has}
 use Rattle.frames.proofs.process_frame.Reads as process-frame
+use Rattle.frames.proofs.process_lent_frame.Reads as process-lent-frame
 use Rattle.frames.proofs.process_raw_frame.Reads as process-raw-frame
 
 -- ---- one call: the compiled call may answer so and leave this engine
@@ -36,6 +38,10 @@ pub data Compiled : SignalIdsEngine → Call → Said → SignalIdsEngine → Ty
   asking : (κs : Lfts 0) (e : SignalIdsEngine) (n : ℕ) (x : _) → next-slot.Learnt κs (e, tt) n x → Compiled e nextAsked (number n) e
   framing : (κs : Lfts 0) (e : SignalIdsEngine) (f : CanFrame) (r : Processed) (x : _) → process-frame.Learnt κs (e, (f, tt)) r x
       → Compiled e (framed f) (saw (resultMeans (r .result))) (r .engine)
+  -- a frame whose data bytes are lent is a frame that has them
+  lentFraming : (κs : Lfts 1) (e : SignalIdsEngine) (h : FrameHeader) (bytes : RefT (List ℕ)) (r : Processed) (x : _)
+      → process-lent-frame.Learnt κs (e, (h, (bytes, tt))) r x
+      → Compiled e (framed (frameWith h (now bytes))) (saw (resultMeans (r .result))) (r .engine)
   rawFraming : (κs : Lfts 1) (e : SignalIdsEngine) (id : ℕ) (bytes : RefT (List ℕ)) (n : ℕ) (r : Processed) (x : _)
       → process-raw-frame.Learnt κs (e, (id, (bytes, (n, tt)))) r x
       → Compiled e (rawFramed id (now bytes) n) (saw (resultMeans (r .result))) (r .engine)
@@ -48,6 +54,7 @@ compiled-says (removing κs e s r x h) = (ap (λ (q : Defined). gave (q .answer)
 compiled-says (counting κs e n x h) = (ap number h, refl)
 compiled-says (asking κs e n x h) = (ap number h, refl)
 compiled-says (framing κs e f r x h) = (ap (λ (q : Framed). saw (q .result)) h, ap (λ (q : Framed). q .engine) h)
+compiled-says (lentFraming κs e h bytes r x p) = (ap (λ (q : Framed). saw (q .result)) p, ap (λ (q : Framed). q .engine) p)
 compiled-says (rawFraming κs e id bytes n r x h) = (ap (λ (q : Framed). saw (q .result)) h, ap (λ (q : Framed). q .engine) h)
 
 -- and each call has such an answer
@@ -69,6 +76,11 @@ compiled e (framed f) = let p = processedFrame e f in seen p (framing tt e f (pr
 compiled e (rawFramed id s n) =
     let p = processed e id false s n in
     seen p (rawFraming ([], tt) e id (lent s) n (processedFor p) (e, (id, (lent s, (n, tt)))) (framed-has p))
+
+-- so has a frame whose data bytes are lent
+pub compiled-lent : (e : SignalIdsEngine) (h : FrameHeader) (s : List ℕ) → Compiled e (framed (frameWith h s)) (said e (framed (frameWith h s))) (after e (framed (frameWith h s)))
+unfolding lent
+compiled-lent e h s = let p = processedFrame e (frameWith h s) in seen p (lentFraming ([], tt) e h (lent s) (processedFor p) (e, (h, (lent s, tt))) (framed-has p))
 
 -- ---- a run: each call takes the engine that the one before it left
 pub data Run : SignalIdsEngine → List Call → List Said → SignalIdsEngine → Type 0 where

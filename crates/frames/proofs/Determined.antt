@@ -11,6 +11,7 @@ use Rattle.frames.specs.Frames.{Finding, passedOver, noValue, firstSampl
 use Rattle.frames.proofs.payload_len.Reads as payload-len
 use Rattle.frames.proofs.effective_can_id.Reads as effective-can-id
 use Rattle.frames.proofs.process_frame.Reads as process-frame
+use Rattle.frames.proofs.process_lent_frame.Reads as process-lent-frame
 use Rattle.frames.proofs.process_raw_frame.Reads as process-raw-frame
 
 -- ---- the meaning of an answer tells all answers apart: the five cases of an outcome with their values and reasons, a report, a result
@@ -90,6 +91,9 @@ effective-can-id-determined κs a r q s t p p′ = p ∙ sym p′
 
 pub process-frame-determined : Determines process-frame.Learnt
 process-frame-determined κs a r q s t p p′ = processed-settled r q (p ∙ sym p′)
+
+pub process-lent-frame-determined : Determines process-lent-frame.Learnt
+process-lent-frame-determined κs a r q s t p p′ = processed-settled r q (p ∙ sym p′)
 
 pub process-raw-frame-determined : Determines process-raw-frame.Learnt
 process-raw-frame-determined κs a r q s t p p′ = processed-settled r q (p ∙ sym p′)

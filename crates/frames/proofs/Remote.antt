@@ -1,4 +1,5 @@
--- Document 02, T-01, "Remote frames carry no data": what `process_frame` returns for a remote frame, on every engine value.
+-- Document 02, T-01, "Remote frames carry no data": what `process_frame` returns for a remote frame, on every engine value. The frame is a classic one;
+-- the remote flag of an FD frame is ignored (T-05, Fd).
 -- Of the engine no more is asked than that each of its columns has 64 places, as every value of its type has (`sound-of` of table).
 -- Assumes nothing.
 use mathlib.Core.Path.{_≡_, refl, ap, _∙_, subst, sym}
@@ -152,12 +153,12 @@ unfolding blankReport
 blanks-valueless zero = tt
 blanks-valueless (suc n) = (inl refl, blanks-valueless n)
 
-module _ (f : CanFrame) (remote : f .«is_remote» ≡ true) where
+module _ (f : CanFrame) (classic : f .«is_fd» ≡ false) (remote : f .«is_remote» ≡ true) where
   -- the payload length of a remote frame is 0, whatever its length field says
   pub remote-payload : payloadOf f ≡ 0
-  remote-payload = chosen 0 (min (f .length) 8) remote
+  remote-payload = other _ _ classic ∙ chosen 0 (min (f .length) 8) remote
 
-  -- its multiplexor has no number, whatever stands in the eight bytes of the record
+  -- its multiplexor has no number, whatever stands in the bytes of the record
   pub remote-multiplexor : (rows : List Entry) → multiplexorOf (effectiveOf f) (f .«is_extended») (f .«data») (payloadOf f) rows ≡ Missing
   remote-multiplexor rows =
       ap (λ (n : ℕ). multiplexorOf (effectiveOf f) (f .«is_extended») (f .«data») n rows) remote-payload
@@ -217,16 +218,16 @@ each-outside id x next (row ∷ rows) p = go (each-outside id x next rows (p .1)
     go rest true = (at (row .signal .definition .condition), rest)
     go rest false = rest
 
-pub remote-outside : (κs : Lfts 0) (e : SignalIdsEngine) → Sound e → Regular (tableOf e) → (f : CanFrame) → f .«is_remote» ≡ true → (r : Processed) (out : _)
+pub remote-outside : (κs : Lfts 0) (e : SignalIdsEngine) → Sound e → Regular (tableOf e) → (f : CanFrame) → f .«is_fd» ≡ false → f .«is_remote» ≡ true → (r : Processed) (out : _)
     → process-frame.Learnt κs (e, (f, tt)) r out
     → every PassedOrOutside (reported r)
 unfolding pad
-remote-outside κs e good g f remote r out promised =
+remote-outside κs e good g f classic remote r out promised =
     let own = keep (applies (effectiveOf f) (f .«is_extended»)) (live e) in
     subst (every PassedOrOutside)
-    (sym (ap (λ (p : Framed). take (p .result .«report_count») (p .result .reports)) (returned f remote e good κs r out promised) ∙ take-append-seam (map quiet own) _))
+    (sym (ap (λ (p : Framed). take (p .result .«report_count») (p .result .reports)) (returned f classic remote e good κs r out promised) ∙ take-append-seam (map quiet own) _))
     (each-outside (effectiveOf f) (f .«is_extended») (e .«next_slot») (live e) (g .proper))
 
--- a frame that is not remote has the payload that document 01 gives it
-pub other-payload : (f : CanFrame) → f .«is_remote» ≡ false → payloadOf f ≡ min (f .length) 8
-other-payload f h = other 0 (min (f .length) 8) h
+-- a classic frame that is not remote has the payload that document 01 gives it
+pub other-payload : (f : CanFrame) → f .«is_fd» ≡ false → f .«is_remote» ≡ false → payloadOf f ≡ min (f .length) 8
+other-payload f classic h = other _ _ classic ∙ other 0 (min (f .length) 8) h

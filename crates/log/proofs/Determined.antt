@@ -26,7 +26,7 @@ itemOfFront (Front.fault k) = Item.Stop k
 itemOfFront (Front.settings a t) = Item.Call (Request.Settings a t)
 itemOfFront (Front.definition d) = Item.Call (Request.Define d)
 itemOfFront (Front.removal k) = Item.Call (Request.Remove k)
-itemOfFront (Front.frame i x y n) = Item.Frame i x y n
+itemOfFront (Front.frame h) = Item.Frame h
 
 item-read-back : (i : Item) → itemOfFront (itemMeans i) ≡ i
 item-read-back Item.Wait = refl
@@ -34,7 +34,7 @@ item-read-back (Item.Stop k) = refl
 item-read-back (Item.Call (Request.Settings a t)) = refl
 item-read-back (Item.Call (Request.Define d)) = refl
 item-read-back (Item.Call (Request.Remove k)) = refl
-item-read-back (Item.Frame i x y n) = refl
+item-read-back (Item.Frame h) = refl
 
 pub item-settled : (a b : Item) → itemMeans a ≡ itemMeans b → a ≡ b
 item-settled a b h = sym (item-read-back a) ∙ ap itemOfFront h ∙ item-read-back b

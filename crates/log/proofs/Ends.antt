@@ -16,7 +16,7 @@ use Rattle.table.specs.declared.Answer.{Answer}
 use Rattle.log.specs.declared.decode.Mark.{Mark}
 use Rattle.log.specs.declared.stream.Log.{Log}
 use Rattle.log.specs.declared.stream.Step.{Step}
-use Rattle.log.specs.Records.{Front, itemOf, markOf, sizeOf, misplaced, recordOf, settingsOf, defineOf, removeOf, frameOf, badFlags, le16}
+use Rattle.log.specs.Records.{Front, itemOf, markOf, sizeOf, misplaced, recordOf, settingsOf, defineOf, removeOf, frameOf, fdLength, fdFrameOf, badFlags, le16}
 use Rattle.log.specs.Lines.{Put}
 use Rattle.log.specs.Output.{Standing, statusMeans, createdBy, settledStep, itemStep, Move, stepOf, goesOn, output, startOf}
 use Rattle.log.specs.Pieces.{runOn, advanceOf, fullMove, behind, isEnded, concat, Calls, read, call, last, rooms}
@@ -84,16 +84,16 @@ module _ (room : ℕ) (e : Bool) (log : Log) (s : List ℕ) (h : 512 ≤ room) w
       go (inr (inl q)) = inr (inl q)
       go (inr (inr q)) = inr (inr (q, full-took q (step-kinds e log s)))
 
--- ---- a log that waits has fewer than 24 bytes at hand: no record has more
+-- ---- a log that waits has fewer than 72 bytes at hand: no record has more
 
 abbrev Short : List ℕ → Front → Type 0
-Short s i = i ≡ Front.incomplete → length s < 24
+Short s i = i ≡ Front.incomplete → length s < 72
 
 stop-whole : (s : List ℕ) (k : ℕ) → Short s (Front.fault k)
 stop-whole s k q = let z : _≡_ {A = ℕ} 0 1 = cc in absurd (omega arith)
 
 record-whole : (s t : List ℕ) (k : Mark) → Short s (recordOf t k)
-unfolding settingsOf defineOf removeOf frameOf
+unfolding settingsOf defineOf removeOf frameOf fdFrameOf
 record-whole s t Mark.Settings = λ q. let z : _≡_ {A = ℕ} 0 1 = cc in absurd (omega arith)
 record-whole s t Mark.Definition =
     choose (Short s) (badFlags (getD t 6 0) (le16 t 22)) _ _ (λ _. stop-whole s 13) (λ _ q. let z : _≡_ {A = ℕ} 0 1 = cc in absurd (omega arith))
@@ -101,13 +101,17 @@ record-whole s t Mark.Removal = λ q. let z : _≡_ {A = ℕ} 0 1 = cc in absurd
 record-whole s t Mark.Frame =
     choose (Short s) (leb 4 (getD t 2 0)) _ _ (λ _. stop-whole s 13)
     (λ _. choose (Short s) (ltb 15 (getD t 3 0)) _ _ (λ _. stop-whole s 14) (λ _ q. let z : _≡_ {A = ℕ} 0 1 = cc in absurd (omega arith)))
+record-whole s t Mark.FdFrame =
+    choose (Short s) (leb 2 (getD t 2 0)) _ _ (λ _. stop-whole s 13)
+    (λ _. choose (Short s) (fdLength (getD t 3 0)) _ _ (λ _ q. let z : _≡_ {A = ℕ} 0 1 = cc in absurd (omega arith)) (λ _. stop-whole s 14))
 record-whole s t Mark.Unknown = stop-whole s 10
 
-largest : (k : Mark) → sizeOf k ≤ 24
+largest : (k : Mark) → sizeOf k ≤ 72
 largest Mark.Settings = omega arith
 largest Mark.Definition = omega arith
 largest Mark.Removal = omega arith
 largest Mark.Frame = omega arith
+largest Mark.FdFrame = omega arith
 largest Mark.Unknown = omega arith
 
 item-short : (n : ℕ) (s : List ℕ) → Short s (itemOf n s)
@@ -131,26 +135,26 @@ item-waits e log s (Front.fault k) q = cc
 item-waits e log s (Front.settings a t) q = absurd (settled-goes log (createdBy a t .engine) (createdBy a t .answer) q)
 item-waits e log s (Front.definition d) q = cc
 item-waits e log s (Front.removal k) q = cc
-item-waits e log s (Front.frame i x y n) q = cc
+item-waits e log s (Front.frame h) q = cc
 
-step-short : (e : Bool) (log : Log) (s : List ℕ) → stepOf e log s .status ≡ Standing.waits → length s < 24
+step-short : (e : Bool) (log : Log) (s : List ℕ) → stepOf e log s .status ≡ Standing.waits → length s < 72
 unfolding stepOf
 step-short e log s q = item-short (log .count) s (item-waits e log s (itemOf (log .count) s) q)
 
-run-short : (f room : ℕ) (e : Bool) (log : Log) (s : List ℕ) → length s < f → runOn f room e log s .status ≡ Standing.waits → length s - runOn f room e log s .used < 24
+run-short : (f room : ℕ) (e : Bool) (log : Log) (s : List ℕ) → length s < f → runOn f room e log s .status ≡ Standing.waits → length s - runOn f room e log s .used < 72
 unfolding runOn
 run-short zero room e log s h = absurd (omega arith)
 run-short (suc f) room e log s h =
     let m = stepOf e log s in
     let r = room - length (m .text) in
-    let Few : Move → Type 0 = λ (x : Move). x .status ≡ Standing.waits → length s - x .used < 24 in
+    let Few : Move → Type 0 = λ (x : Move). x .status ≡ Standing.waits → length s - x .used < 72 in
     choose Few (ltb room 512) (fullMove log) _ (λ _ q. let z : _≡_ {A = ℕ} 0 1 = cc in absurd (omega arith))
     (λ _. choose Few (goesOn (m .status)) (behind m (runOn f r e (m .log) (drop (m .used) s))) m
     (λ g q. let l = going e log s g in
     omega (arith, l, length-drop (m .used) s, run-short f r e (m .log) (drop (m .used) s) (omega (arith, l, length-drop (m .used) s)) q))
     (λ _ q. omega (arith, step-short e log s q)))
 
-pub waits-short : (room : ℕ) (e : Bool) (log : Log) (s : List ℕ) → advanceOf room e log s .status ≡ Standing.waits → length s - advanceOf room e log s .used < 24
+pub waits-short : (room : ℕ) (e : Bool) (log : Log) (s : List ℕ) → advanceOf room e log s .status ≡ Standing.waits → length s - advanceOf room e log s .used < 72
 waits-short room e log s q = run-short (suc (length s)) room e log s (omega arith) q
 
 -- ---- THE THEOREM: whatever log, bytes at hand and pieces, and whatever the rooms, each enough for one record, a run exists that ends.

@@ -1,12 +1,13 @@
 -- What stands at the front, once the first three tests have passed. Assumes nothing.
-use mathlib.Core.Path.{_≡_, refl}
-use mathlib.Core.Bool.{Bool, true, false}
+use mathlib.Core.Path.{_≡_, refl, ap}
+use mathlib.Core.Bool.{Bool, true, false, _||_}
 use mathlib.Core.List.{List}
-use Prim.Native.Nat.{ℕ, _%_, _<_, _≤_}
-use lib.Dec.{eqb}
+use mathlib.Core.Logic.{_⊎_, inl, inr}
+use Prim.Native.Nat.{ℕ, _<_, _≤_}
+use lib.Dec.{leb, eqb}
 use lib.ListN.{length, getD, take}
-use borrow.Author.Tests.{ne-eqb, le-leb, lt-leb, lt-ltb, le-ltb}
-use Rattle.log.specs.Records.{Front, itemOf, marked, markOf, sizeOf, misplaced, recordOf, le16, le32, badFlags, defineOf, definitionOf, flag, frameOf}
+use borrow.Author.Tests.{eqb-true, ne-eqb, leb-true, le-leb, lt-leb, lt-ltb, le-ltb}
+use Rattle.log.specs.Records.{Front, itemOf, marked, markOf, sizeOf, misplaced, recordOf, le16, badFlags, defineOf, definitionOf, frameOf, classicHeader, fdLength, fdHeader, fdFrameOf}
 use Rattle.log.specs.declared.decode.Mark.{Mark}
 
 module _ (n : ℕ) (s : List ℕ) (h0 : length s ≡ 0 → ⊥) (hn : n ≡ 4294967295 → ⊥) (h1 : length s ≡ 1 → ⊥) where
@@ -46,6 +47,60 @@ module _ (s : List ℕ) where
   long-frame h k = simp (lt-leb 4 (getD s 2 0) h, lt-ltb 15 (getD s 3 0) k)
 
   -- and with neither the record is a frame, remote exactly if bit 1 is set
-  pub defined-flags : getD s 2 0 < 4 → getD s 3 0 ≤ 15 → frameOf s ≡ Front.frame (le32 s 4) (eqb (getD s 2 0 % 2) 1) (flag 2 (getD s 2 0)) (getD s 3 0)
+  pub defined-flags : getD s 2 0 < 4 → getD s 3 0 ≤ 15 → frameOf s ≡ Front.frame (classicHeader s)
   unfolding frameOf
   defined-flags h k = simp (lt-leb 4 (getD s 2 0) h, le-ltb 15 (getD s 3 0) k)
+
+-- ---- the lengths above 8 that an FD frame can have
+pub fd-listed : (n : ℕ) → (n ≡ 12) ⊎ ((n ≡ 16) ⊎ ((n ≡ 20) ⊎ ((n ≡ 24) ⊎ ((n ≡ 32) ⊎ ((n ≡ 48) ⊎ (n ≡ 64)))))) → fdLength n ≡ true
+unfolding fdLength
+fd-listed n (inl q) = ap fdLength q
+fd-listed n (inr (inl q)) = ap fdLength q
+fd-listed n (inr (inr (inl q))) = ap fdLength q
+fd-listed n (inr (inr (inr (inl q)))) = ap fdLength q
+fd-listed n (inr (inr (inr (inr (inl q))))) = ap fdLength q
+fd-listed n (inr (inr (inr (inr (inr (inl q)))))) = ap fdLength q
+fd-listed n (inr (inr (inr (inr (inr (inr q)))))) = ap fdLength q
+
+-- and with 0 to 8 these are all
+pub fd-short : (n : ℕ) → n ≤ 8 → fdLength n ≡ true
+unfolding fdLength
+fd-short n h = simp (le-leb n 8 h)
+
+either : (a b : Bool) → (a || b) ≡ true → (a ≡ true) ⊎ (b ≡ true)
+either true b h = inl refl
+either false b h = inr h
+
+one-more : (n k : ℕ) (b : Bool) {A : Type 0} → (b ≡ true → A) → (eqb n k || b) ≡ true → (n ≡ k) ⊎ A
+one-more n k b {A} rest h = at (either (eqb n k) b h)
+  where
+    at : (eqb n k ≡ true) ⊎ (b ≡ true) → (n ≡ k) ⊎ A
+    at (inl q) = inl (eqb-true n k q)
+    at (inr q) = inr (rest q)
+
+pub fd-only : (n : ℕ) → fdLength n ≡ true → (n ≤ 8) ⊎ ((n ≡ 12) ⊎ ((n ≡ 16) ⊎ ((n ≡ 20) ⊎ ((n ≡ 24) ⊎ ((n ≡ 32) ⊎ ((n ≡ 48) ⊎ (n ≡ 64)))))))
+unfolding fdLength
+fd-only n h = at (either (leb n 8) _ h)
+  where
+    at : (leb n 8 ≡ true) ⊎ ((eqb n 12 || (eqb n 16 || (eqb n 20 || (eqb n 24 || (eqb n 32 || (eqb n 48 || eqb n 64)))))) ≡ true)
+        → (n ≤ 8) ⊎ ((n ≡ 12) ⊎ ((n ≡ 16) ⊎ ((n ≡ 20) ⊎ ((n ≡ 24) ⊎ ((n ≡ 32) ⊎ ((n ≡ 48) ⊎ (n ≡ 64)))))))
+    at (inl q) = inl (leb-true n 8 q)
+    at (inr q) =
+        inr (one-more n 12 _ (one-more n 16 _ (one-more n 20 _ (one-more n 24 _ (one-more n 32 _ (one-more n 48 _ (eqb-true n 64)))))) q)
+
+-- ---- an FD frame's record, whose bytes are s (T-05): its flags, then its length
+module _ (s : List ℕ) where
+  -- any flag but extended gives 13, whatever the length is
+  pub fd-undefined-flag : 2 ≤ getD s 2 0 → fdFrameOf s ≡ Front.fault 13
+  unfolding fdFrameOf
+  fd-undefined-flag h = simp (le-leb 2 (getD s 2 0) h)
+
+  -- with none of these a length that is not listed gives 14
+  pub fd-unlisted : getD s 2 0 < 2 → fdLength (getD s 3 0) ≡ false → fdFrameOf s ≡ Front.fault 14
+  unfolding fdFrameOf
+  fd-unlisted h k = simp (lt-leb 2 (getD s 2 0) h, k)
+
+  -- and with neither the record is an FD frame
+  pub fd-sound : getD s 2 0 < 2 → fdLength (getD s 3 0) ≡ true → fdFrameOf s ≡ Front.frame (fdHeader s)
+  unfolding fdFrameOf
+  fd-sound h k = simp (lt-leb 2 (getD s 2 0) h, k)

@@ -7,4 +7,5 @@ pub mod Seams
 pub mod Ends
 pub mod Example
 pub mod Remote
+pub mod Before
 pub mod Determined

@@ -1,5 +1,5 @@
 -- The runs: their fuel does not show, so each is its first step and the run behind it; and the loop of `advance`. Assumes nothing.
-use mathlib.Core.Path.{_≡_, refl, sym, _∙_, ap}
+use mathlib.Core.Path.{_≡_, refl, sym, _∙_, ap, subst}
 use mathlib.Core.Bool.{Bool, true, false, cond}
 use mathlib.Core.List.{List, [], _++_, append-assoc, append-nil}
 use Prim.Native.Nat.{ℕ, zero, suc, _+_, _-_, _*_, _^_, _<_, _≤_}
@@ -10,8 +10,8 @@ use lib.Dec.{ltb}
 use borrow.Author.Tests.{le-ltb, lt-ltb, ltb-false}
 use Rattle.io.specs.Counts.{Counts}
 use Rattle.frames.specs.declared.Processed.{Processed}
-use Rattle.frames.specs.Frames.{Framed, processedMeans}
-use Rattle.frames.specs.declared.CanFrame.{CanFrame}
+use Rattle.frames.specs.declared.FrameHeader.{FrameHeader}
+use Rattle.frames.specs.Frames.{frameWith, Framed, processedMeans}
 use Rattle.log.specs.declared.decode.Request.{Request}
 use Rattle.log.specs.declared.decode.Item.{Item}
 use Rattle.log.specs.declared.stream.Log.{Log}
@@ -19,14 +19,14 @@ use Rattle.log.specs.declared.stream.Status.{Status}
 use Rattle.log.specs.declared.stream.Step.{Step}
 use Rattle.log.specs.Records.{itemMeans, requestMeans, itemOf}
 use Rattle.log.specs.Lines.{Put, anomalyLines}
-use Rattle.log.specs.Output.{Standing, statusMeans, processedBy, frameAt, Move, stepOf, goesOn, run, outputFrom, stopStep, waitStep, requestStep, frameStep}
+use Rattle.log.specs.Output.{Standing, statusMeans, processedBy, dataSize, frameSize, dataOf, Move, stepOf, goesOn, run, outputFrom, stopStep, waitStep, requestStep, frameStep}
 use Rattle.log.specs.Pieces.{Does, runOn, advanceOf, fullMove, behind, after, soundOf}
 use Rattle.log.proofs.Below.{few}
 use Rattle.log.proofs.Texts.{then, named, nothing}
 use Rattle.log.proofs.Steps.{going, choose, does, at-item, at-request, has, counts-on, asks, step-count, step-length, step-used}
 
 -- a choice whose first side matters only where the test holds
-when {ℓ} : {A : Type ℓ} (b : Bool) (x y z : A) → (b ≡ true → x ≡ y) → cond b x z ≡ cond b y z
+pub when {ℓ} : {A : Type ℓ} (b : Bool) (x y z : A) → (b ≡ true → x ≡ y) → cond b x z ≡ cond b y z
 when true x y z h = h refl
 when false x y z h = refl
 
@@ -242,40 +242,51 @@ module _ {s : List ℕ} {e : Bool} {d : List ℕ} {log₀ : Log} {out : List ℕ
               last-turn (requestStep log (requestMeans c)) call-here (sym (ap goesOn (p .status)) ∙ g)
               (record { log = p .log; used = ap (λ (j : ℕ). used + j) (p .used); put = p .put; status = p .status })
 
-      -- ---- a frame
-      module _ (id : ℕ) (x r : Bool) (n : ℕ) (q : i ≡ Item.Frame id x r n) where
-        pub frame-bytes : 16 ≤ length (take (length s - used) (drop used s))
-        frame-bytes = has (log .count) (take (length s - used) (drop used s)) (itemMeans i) (itemMeans (Item.Frame id x r n)) found (ap itemMeans q)
-
-        pub frame-used : used + 16 ≤ length s
-        frame-used = omega (arith, has (log .count) (drop used s) (itemMeans i) (itemMeans (Item.Frame id x r n)) front (ap itemMeans q), length-drop used s, w .got)
+      -- ---- a frame, with n data bytes
+      module _ (h : FrameHeader) (q : i ≡ Item.Frame h) (n : ℕ) (size : n ≡ dataSize h) where
+        pub frame-used : used + 8 + n ≤ length s
+        frame-used = omega (arith, size, has (log .count) (drop used s) (itemMeans i) (itemMeans (Item.Frame h)) front (ap itemMeans q), length-drop used s, w .got)
 
         pub frame-counts : log .count < 4294967295
-        frame-counts = counts-on (log .count) (drop used s) (itemMeans i) (itemMeans (Item.Frame id x r n)) front (ap itemMeans q) (w .few-enough) (omega arith)
+        frame-counts = counts-on (log .count) (drop used s) (itemMeans i) (itemMeans (Item.Frame h)) front (ap itemMeans q) (w .few-enough) (omega arith)
 
-        pub frame-less : length s - (used + 16) < length s - used
+        pub frame-less : length s - (used + 8 + n) < length s - used
         frame-less = omega (arith, frame-used)
 
-        module _ {f : CanFrame} (ef : f ≡ frameAt id x r n (take (length s - used) (drop used s))) (y : Processed) (ey : processedMeans y ≡ processedBy (log .engine) f) where
-          frame-here : frameStep log f ≡ stepOf e log (drop used s)
-          frame-here = ap (frameStep log) (ef ∙ ap (frameAt id x r n) (part-all s used)) ∙ at-item e log (drop used s) (itemMeans i) (itemMeans (Item.Frame id x r n)) front (ap itemMeans q)
+        -- its data bytes, as the code lends them
+        abbrev lent : List ℕ
+        lent = take (used + 8 + n - (used + 8)) (drop (used + 8) s)
+
+        lent-data : lent ≡ dataOf h (drop used s)
+        lent-data =
+            let k : used + 8 + n - (used + 8) ≡ dataSize h = omega (arith, size) in
+            ap (take (used + 8 + n - (used + 8))) (sym (drop-drop 8 used s)) ∙ ap (λ (j : ℕ). take j (drop 8 (drop used s))) k
+
+        module _ (y : Processed) (ey : processedMeans y ≡ processedBy (log .engine) (frameWith h lent)) where
+          frame-here : frameStep log (8 + n) (frameWith h lent) ≡ stepOf e log (drop used s)
+          frame-here =
+              ap (λ (k : ℕ). frameStep log (8 + k) (frameWith h lent)) size
+              ∙ ap (λ (l : List ℕ). frameStep log (frameSize h) (frameWith h l)) lent-data
+              ∙ at-item e log (drop used s) (itemMeans i) (itemMeans (Item.Frame h)) front (ap itemMeans q)
 
           -- its lines have room
           pub frame-room : (y .result .«anomaly_count» ≤ 8) × (end + 55 * y .result .«anomaly_count» ≤ length out)
           frame-room =
-              let h : y .result .«anomaly_count» ≤ 8 = omega (arith, ap (λ (z : Framed). z .result .«anomaly_count») ey, few (log .engine) f) in
-              (h, omega arith)
+              let k : y .result .«anomaly_count» ≤ 8 = omega (arith, ap (λ (z : Framed). z .result .«anomaly_count») ey, few (log .engine) (frameWith h lent)) in
+              (k, omega arith)
 
           pub frame-more : {end′ : ℕ} {out′ : List ℕ} → Put out end (anomalyLines (log .count + 1) (take (y .result .«anomaly_count») (y .result .anomalies))) end′ out′
-              → Turned s e d log₀ out′ (record { count = log .count + 1; engine = y .engine }) (used + 16) end′
+              → Turned s e d log₀ out′ (record { count = log .count + 1; engine = y .engine }) (used + 8 + n) end′
           frame-more {end′} {out′} p =
-              more (frameStep log f) frame-here {r = soundOf log (y .engine) 16 end′}
+              let k : used + (8 + n) ≡ used + 8 + n = omega arith in
+              subst (λ (j : ℕ). Turned s e d log₀ out′ (record { count = log .count + 1; engine = y .engine }) j end′) k
+              (more (frameStep log (8 + n) (frameWith h lent)) frame-here {r = soundOf log (y .engine) (8 + n) end′}
               (record {
                 log = ap (λ (z : Framed). record { count = log .count + 1; engine = z .engine }) ey;
                 used = refl;
                 put = named (ap (λ (z : Framed). anomalyLines (log .count + 1) (take (z .result .«anomaly_count») (z .result .anomalies))) ey) p;
                 status = refl;
-              }) refl
+              }) refl)
 
 -- ---- what a call takes was there, and what it writes has room
 

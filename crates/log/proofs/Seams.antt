@@ -9,10 +9,11 @@ use lib.ListN.{length, take, drop, length-append, length-drop}
 use lib.Seq.{drop-drop, drop-append-le, take-append-le}
 use lib.Dec.{ltb, eqb}
 use borrow.Author.Tests.{le-ltb, ltb-false, ne-eqb, eqb-true, eqb-false}
+use Rattle.frames.specs.Frames.{frameWith}
 use Rattle.log.specs.declared.decode.Mark.{Mark}
 use Rattle.log.specs.declared.stream.Log.{Log}
 use Rattle.log.specs.Records.{Front, itemOf, marked, markOf, sizeOf}
-use Rattle.log.specs.Output.{Standing, Move, stepOf, itemStep, frameStep, frameAt, dataOf, goesOn, outputFrom, output, startOf, waiting}
+use Rattle.log.specs.Output.{Standing, Move, stepOf, itemStep, frameStep, dataSize, frameSize, goesOn, outputFrom, output, startOf, waiting}
 use Rattle.log.specs.Pieces.{runOn, advanceOf, fullMove, behind, isEnded, left, concat, Calls, read, call, last}
 use Rattle.log.proofs.Front.{placed}
 use Rattle.log.proofs.Steps.{going, step-kinds, Kinds, item-taken, taken}
@@ -72,19 +73,17 @@ stable n (a ∷ b ∷ s) t = go (eqb n 4294967295) refl
 
 -- ---- nor a step but one that waits
 
-frame-same : (log : Log) (i : ℕ) (x y : Bool) (n : ℕ) (s t : List ℕ) → dataOf s ≡ dataOf t → frameStep log (frameAt i x y n s) ≡ frameStep log (frameAt i x y n t)
-frame-same log i x y n s t e = ap (λ (l : List ℕ). frameStep log (record { id = i; «is_extended» = x; «is_remote» = y; length = n; «data» = l })) e
-
 item-same : (log : Log) (s t : List ℕ) (i : Front) → taken i ≤ length s → (itemStep false log s i ≡ waiting log) ⊎ (itemStep true log (s ++ t) i ≡ itemStep false log s i)
 item-same log s t Front.incomplete h = inl refl
 item-same log s t (Front.fault k) h = inr refl
 item-same log s t (Front.settings a u) h = inr refl
 item-same log s t (Front.definition d) h = inr refl
 item-same log s t (Front.removal k) h = inr refl
-item-same log s t (Front.frame i x y n) h =
+item-same log s t (Front.frame f) h =
+    let n = dataSize f in
     let l : 8 ≤ length s = omega arith in
-    let l′ : 8 ≤ length (drop 8 s) = omega (arith, length-drop 8 s) in
-    inr (frame-same log i x y n (s ++ t) s (ap (take 8) (drop-append-le 8 s t l) ∙ take-append-le 8 (drop 8 s) t l′))
+    let l′ : n ≤ length (drop 8 s) = omega (arith, length-drop 8 s) in
+    inr (ap (λ (x : List ℕ). frameStep log (frameSize f) (frameWith f x)) (ap (take n) (drop-append-le 8 s t l) ∙ take-append-le n (drop 8 s) t l′))
 
 pub step-stable : (e : Bool) (log : Log) (s t : List ℕ) → (e ≡ true → t ≡ []) → (stepOf e log s ≡ waiting log) ⊎ (stepOf true log (s ++ t) ≡ stepOf e log s)
 unfolding stepOf

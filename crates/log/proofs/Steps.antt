@@ -1,13 +1,12 @@
 -- One record: how many bytes it takes, and how much it prints. Assumes nothing.
 use mathlib.Core.Path.{_≡_, refl, sym, _∙_, ap, subst}
 use mathlib.Core.Bool.{Bool, true, false, cond, true≢false}
-use mathlib.Core.List.{List, [], _∷_}
+use mathlib.Core.List.{List, []}
 use mathlib.Core.Logic.{_⊎_, inl, inr}
-use Prim.Native.Nat.{ℕ, _+_, _%_, _^_, _<_, _≤_, min}
+use Prim.Native.Nat.{ℕ, _+_, _^_, _<_, _≤_, min}
 use native.Mathlib.Omega.{arith}
 use native.Mathlib.Decide.{decLe}
 use lib.ListN.{length, take, getD, length-take}
-use lib.Seq.{drop-cons}
 use lib.Dec.{ltb, leb, eqb}
 use borrow.Author.Tests.{ltb-false, eqb-false}
 use Rattle.table.specs.declared.SignalIdsEngine.{SignalIdsEngine}
@@ -17,9 +16,9 @@ use Rattle.log.specs.declared.decode.Mark.{Mark}
 use Rattle.log.specs.declared.decode.Request.{Request}
 use Rattle.log.specs.declared.stream.Log.{Log}
 use Rattle.log.specs.declared.stream.Step.{Step}
-use Rattle.log.specs.Records.{Front, requestMeans, itemOf, marked, markOf, sizeOf, misplaced, recordOf, settingsOf, defineOf, removeOf, frameOf, badFlags, definitionOf, flag, le16, le32}
+use Rattle.log.specs.Records.{Front, requestMeans, itemOf, marked, markOf, sizeOf, misplaced, recordOf, settingsOf, defineOf, removeOf, frameOf, classicHeader, fdLength, fdHeader, fdFrameOf, badFlags, definitionOf, le16}
 use Rattle.log.specs.Lines.{Put, ascii}
-use Rattle.log.specs.Output.{Standing, statusMeans, createdBy, definedBy, removedBy, processedBy, dataOf, frameAt, Move, itemStep, stepOf, settledStep, requestStep, frameStep, goStep, stopStep, waitStep, lastNumber, goesOn, waiting}
+use Rattle.log.specs.Output.{Standing, statusMeans, createdBy, definedBy, removedBy, processedBy, frameSize, frameAt, Move, itemStep, stepOf, settledStep, requestStep, frameStep, goStep, stopStep, waitStep, lastNumber, goesOn, waiting}
 use Rattle.log.specs.Pieces.{Does, after, soundOf}
 use Rattle.log.proofs.Texts.{line-length, answer-length, lines-length}
 use Rattle.log.proofs.Below.{few}
@@ -29,29 +28,6 @@ pub choose : {A : Type 0} (P : A → Type 0) (b : Bool) (x y : A) → (b ≡ tru
 choose P true x y p q = p refl
 choose P false x y p q = q refl
 
-abbrev frameOf′ : ℕ → Bool → Bool → ℕ → List ℕ → CanFrame
-frameOf′ id x y n l = record { id = id; «is_extended» = x; «is_remote» = y; length = n; «data» = l }
-
-eight : (s : List ℕ) → 16 ≤ length s
-    → getD s 8 0 ∷ getD s 9 0 ∷ getD s 10 0 ∷ getD s 11 0 ∷ getD s 12 0 ∷ getD s 13 0 ∷ getD s 14 0 ∷ getD s 15 0 ∷ [] ≡ dataOf s
-eight s h =
-    rw (
-      drop-cons s 8 0 (omega arith),
-      drop-cons s 9 0 (omega arith),
-      drop-cons s 10 0 (omega arith),
-      drop-cons s 11 0 (omega arith),
-      drop-cons s 12 0 (omega arith),
-      drop-cons s 13 0 (omega arith),
-      drop-cons s 14 0 (omega arith),
-      drop-cons s 15 0 (omega arith),
-    ) refl
-
--- the data bytes one by one
-pub framed : (id : ℕ) (x y : Bool) (n : ℕ) (s : List ℕ) → 16 ≤ length s
-    → record { id = id; «is_extended» = x; «is_remote» = y; length = n; «data» = getD s 8 0 ∷ getD s 9 0 ∷ getD s 10 0 ∷ getD s 11 0 ∷ getD s 12 0 ∷ getD s 13 0 ∷ getD s 14 0 ∷ getD s 15 0 ∷ [] }
-    ≡ frameAt id x y n s
-framed id x y n s h = ap (λ (l : List ℕ). frameOf′ id x y n l) (eight s h)
-
 -- ---- how many bytes an item takes: 0 if the log does not go on
 
 abbrev pub taken : Front → ℕ
@@ -60,20 +36,23 @@ taken (Front.fault k) = 0
 taken (Front.settings a t) = 10
 taken (Front.definition d) = 24
 taken (Front.removal k) = 4
-taken (Front.frame i x y n) = 16
+taken (Front.frame h) = frameSize h
 
 stop-or : (k m : ℕ) (b : Bool) (i : Front) → taken i ≤ m → taken (cond b (Front.fault k) i) ≤ m
 stop-or k m true i h = omega arith
 stop-or k m false i h = h
 
 record-taken : (s : List ℕ) (k : Mark) → taken (recordOf s k) ≤ sizeOf k
-unfolding settingsOf defineOf removeOf frameOf
+unfolding settingsOf defineOf removeOf frameOf fdFrameOf
 record-taken s Mark.Settings = omega arith
 record-taken s Mark.Definition = stop-or 13 24 (badFlags (getD s 6 0) (le16 s 22)) (Front.definition (definitionOf s (getD s 6 0))) (omega arith)
 record-taken s Mark.Removal = omega arith
 record-taken s Mark.Frame =
-    let i = Front.frame (le32 s 4) (eqb (getD s 2 0 % 2) 1) (flag 2 (getD s 2 0)) (getD s 3 0) in
+    let i = Front.frame (classicHeader s) in
     stop-or 13 16 (leb 4 (getD s 2 0)) (cond (ltb 15 (getD s 3 0)) (Front.fault 14) i) (stop-or 14 16 (ltb 15 (getD s 3 0)) i (omega arith))
+record-taken s Mark.FdFrame =
+    let i = cond (fdLength (getD s 3 0)) (Front.frame (fdHeader s)) (Front.fault 14) in
+    stop-or 13 72 (leb 2 (getD s 2 0)) i (choose (λ (x : Front). taken x ≤ 72) (fdLength (getD s 3 0)) _ _ (λ _. omega arith) (λ _. omega arith))
 record-taken s Mark.Unknown = omega arith
 
 marked-taken : (n : ℕ) (s : List ℕ) (k : Mark) → taken (marked n s k) ≤ length s
@@ -170,11 +149,11 @@ module _ (ended : Bool) (log : Log) where
   settled-bounds e (Answer.Slot k) = sound-bounds 10 [] e (omega arith) (omega arith)
   settled-bounds e (Answer.Refused k) = stop-bounds 10 k
 
-  frame-bounds : (f : CanFrame) → Bounds ended log 16 (frameStep log f)
-  frame-bounds f =
+  frame-bounds : (size : ℕ) → 1 ≤ size → (f : CanFrame) → Bounds ended log size (frameStep log size f)
+  frame-bounds size some f =
       let r = processedBy (log .engine) f in
       let n = r .result .«anomaly_count» in
-      sound-bounds 16 _ _ (omega arith) (omega (arith, lines-length (log .count + 1) (take n (r .result .anomalies)), length-take n (r .result .anomalies), few (log .engine) f))
+      sound-bounds size _ _ some (omega (arith, lines-length (log .count + 1) (take n (r .result .anomalies)), length-take n (r .result .anomalies), few (log .engine) f))
 
 item-bounds : (ended : Bool) (log : Log) (s : List ℕ) (i : Front) → Bounds ended log (taken i) (itemStep ended log s i)
 item-bounds true log s Front.incomplete = stop-bounds true log 0 (lastNumber (length s))
@@ -185,7 +164,7 @@ item-bounds ended log s (Front.definition d) =
     sound-bounds ended log 24 _ _ (omega arith) (omega (arith, answer-length (ascii "D ") (log .count + 1) (definedBy (log .engine) d .answer)))
 item-bounds ended log s (Front.removal k) =
     sound-bounds ended log 4 _ _ (omega arith) (omega (arith, answer-length (ascii "R ") (log .count + 1) (removedBy (log .engine) k .answer)))
-item-bounds ended log s (Front.frame i x y n) = frame-bounds ended log (frameAt i x y n s)
+item-bounds ended log s (Front.frame h) = frame-bounds ended log (frameSize h) (omega arith) (frameAt h s)
 
 step-bounds : (ended : Bool) (log : Log) (s : List ℕ) → Bounds ended log (taken (itemOf (log .count) s)) (stepOf ended log s)
 unfolding stepOf

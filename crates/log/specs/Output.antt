@@ -1,4 +1,4 @@
--- Document 01, "The log": all that is printed for an input, `output`.
+-- Document 01, "The log", as amended by document 02, T-05: all that is printed for an input, `output`.
 -- Assumes nothing.
 use Prim.Native.Nat.{ℕ, zero, suc, _+_}
 use mathlib.Core.Bool.{Bool, true, false, cond}
@@ -11,8 +11,9 @@ use Rattle.table.specs.declared.SignalIdsEngine.{SignalIdsEngine}
 use Rattle.table.specs.declared.Answer.{Answer}
 use Rattle.table.specs.declared.Defined.{Defined}
 use Rattle.table.specs.Table.{tableOf, created, defined, define′, remove′}
+use Rattle.frames.specs.declared.FrameHeader.{FrameHeader}
 use Rattle.frames.specs.declared.CanFrame.{CanFrame}
-use Rattle.frames.specs.Frames.{Framed, processedFrame}
+use Rattle.frames.specs.Frames.{frameWith, Framed, processedFrame}
 use Rattle.log.specs.declared.stream.Log.{Log}
 use Rattle.log.specs.declared.stream.Status.{Status}
 use Rattle.log.specs.Records.{Front, itemOf}
@@ -94,18 +95,24 @@ settledStep log e (Answer.Refused k) = stopStep log k
 abbrev pub calledStep : Log → List ℕ → ℕ → Defined → Move
 calledStep log letter n r = goStep log n (answerLine letter (log .count + 1) (r .answer)) (r .engine)
 
--- a frame prints a line for each listed anomaly
-abbrev pub frameStep : Log → CanFrame → Move
-frameStep log f =
+-- a frame, whose record has n bytes, prints a line for each listed anomaly
+abbrev pub frameStep : Log → ℕ → CanFrame → Move
+frameStep log n f =
     let r = processedBy (log .engine) f in
-    goStep log 16 (anomalyLines (log .count + 1) (take (r .result .«anomaly_count») (r .result .anomalies))) (r .engine)
+    goStep log n (anomalyLines (log .count + 1) (take (r .result .«anomaly_count») (r .result .anomalies))) (r .engine)
 
--- a frame's eight data bytes stand behind its header
-abbrev pub dataOf : List ℕ → List ℕ
-dataOf s = take 8 (drop 8 s)
+-- behind the eight bytes of a frame's mark and header stand its data bytes: eight of a classic frame, 64 of an FD one (T-05)
+abbrev pub dataSize : FrameHeader → ℕ
+dataSize h = cond (h .«is_fd») 64 8
 
-abbrev pub frameAt : ℕ → Bool → Bool → ℕ → List ℕ → CanFrame
-frameAt id extended remote n s = record { id = id; «is_extended» = extended; «is_remote» = remote; length = n; «data» = dataOf s }
+abbrev pub frameSize : FrameHeader → ℕ
+frameSize h = 8 + dataSize h
+
+abbrev pub dataOf : FrameHeader → List ℕ → List ℕ
+dataOf h s = take (dataSize h) (drop 8 s)
+
+abbrev pub frameAt : FrameHeader → List ℕ → CanFrame
+frameAt h s = frameWith h (dataOf h s)
 
 -- what stands at the front of the bytes s does this; `ended` says whether the input ends with them
 abbrev pub itemStep : Bool → Log → List ℕ → Front → Move
@@ -114,7 +121,7 @@ itemStep ended log s (Front.fault k) = stopStep log k
 itemStep ended log s (Front.settings a t) = settledStep log (createdBy a t .engine) (createdBy a t .answer)
 itemStep ended log s (Front.definition d) = calledStep log (ascii "D ") 24 (definedBy (log .engine) d)
 itemStep ended log s (Front.removal k) = calledStep log (ascii "R ") 4 (removedBy (log .engine) k)
-itemStep ended log s (Front.frame i x y n) = frameStep log (frameAt i x y n s)
+itemStep ended log s (Front.frame h) = frameStep log (frameSize h) (frameAt h s)
 
 -- the same of a record for the table: neither the bytes behind it nor the end of the input matter
 abbrev pub requestStep : Log → Front → Move

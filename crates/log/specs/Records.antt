@@ -1,7 +1,7 @@
--- Document 01, "The log", as amended by document 02, T-01: the record at the front of the bytes, and what its bytes say.
+-- Document 01, "The log", as amended by document 02, T-01 and T-05: the record at the front of the bytes, and what its bytes say.
 -- Assumes nothing.
 use Prim.Native.Nat.{ℕ, _+_, _*_, _/_, _%_}
-use mathlib.Core.Bool.{Bool, false, cond, not, _&&_, _||_}
+use mathlib.Core.Bool.{Bool, true, false, cond, not, _&&_, _||_}
 use mathlib.Core.List.{List}
 use lib.ListN.{length, getD, take}
 use lib.Dec.{ltb, leb, eqb}
@@ -9,6 +9,7 @@ use lib.Ieee.{Float, ofBits, binary32}
 use Rattle.bits.specs.declared.ByteOrder.{ByteOrder}
 use Rattle.conversion.specs.declared.Condition.{Condition}
 use Rattle.conversion.specs.declared.SignalDefinition.{SignalDefinition}
+use Rattle.frames.specs.declared.FrameHeader.{FrameHeader}
 use Rattle.log.specs.declared.decode.Mark.{Mark}
 use Rattle.log.specs.declared.decode.Request.{Request}
 use Rattle.log.specs.declared.decode.Item.{Item}
@@ -19,11 +20,11 @@ pub data Front : Type 0 where
   incomplete : Front
   -- the log stops, with this number
   fault : ℕ → Front
-  -- a record: alpha and threshold; a definition; a slot; a frame's identifier, whether that is extended, whether the frame is remote, and its length
+  -- a record: alpha and threshold; a definition; a slot; what a frame's record says before its data
   settings : Float → Float → Front
   definition : SignalDefinition → Front
   removal : ℕ → Front
-  frame : ℕ → Bool → Bool → ℕ → Front
+  frame : FrameHeader → Front
 
 -- what each case of `Item` means
 abbrev pub requestMeans : Request → Front
@@ -34,17 +35,18 @@ requestMeans (Request.Remove slot) = removal slot
 abbrev pub itemMeans : Item → Front
 itemMeans Item.Wait = incomplete
 itemMeans (Item.Call q) = requestMeans q
-itemMeans (Item.Frame id extended remote n) = frame id extended remote n
+itemMeans (Item.Frame h) = frame h
 itemMeans (Item.Stop k) = fault k
 
--- ---- the mark: A5 50, A5 44, A5 52 or A5 46
+-- ---- the mark: A5 50, A5 44, A5 52, A5 46 or A5 58 (T-05)
 unfoldable pub markOf : ℕ → ℕ → Mark
 markOf a b =
     cond (eqb a 0xA5)
     (cond (eqb b 0x50) Mark.Settings
     (cond (eqb b 0x44) Mark.Definition
     (cond (eqb b 0x52) Mark.Removal
-    (cond (eqb b 0x46) Mark.Frame Mark.Unknown)))) Mark.Unknown
+    (cond (eqb b 0x46) Mark.Frame
+    (cond (eqb b 0x58) Mark.FdFrame Mark.Unknown))))) Mark.Unknown
 
 -- how many bytes a record has, its mark among them; an unknown mark is known by its two
 abbrev pub sizeOf : Mark → ℕ
@@ -52,6 +54,7 @@ sizeOf Mark.Settings = 10
 sizeOf Mark.Definition = 24
 sizeOf Mark.Removal = 4
 sizeOf Mark.Frame = 16
+sizeOf Mark.FdFrame = 72
 sizeOf Mark.Unknown = 2
 
 -- ---- little-endian numbers at a place, and a float by its bits
@@ -108,10 +111,31 @@ removeOf s = removal (le16 s 2)
 
 -- ---- a frame: flags, of which bit 0 is extended, bit 1 remote (T-01) and none above defined; length, at most 15, of a remote frame too; identifier.
 -- Its eight data bytes follow
+abbrev pub classicHeader : List ℕ → FrameHeader
+classicHeader s =
+    record {
+      id = le32 s 4;
+      «is_extended» = eqb (getD s 2 0 % 2) 1;
+      «is_remote» = flag 2 (getD s 2 0);
+      «is_fd» = false;
+      length = getD s 3 0;
+    }
+
 unfoldable pub frameOf : List ℕ → Front
 frameOf s =
     cond (leb 4 (getD s 2 0)) (fault 13)
-    (cond (ltb 15 (getD s 3 0)) (fault 14) (frame (le32 s 4) (eqb (getD s 2 0 % 2) 1) (flag 2 (getD s 2 0)) (getD s 3 0)))
+    (cond (ltb 15 (getD s 3 0)) (fault 14) (frame (classicHeader s)))
+
+-- ---- an FD frame (T-05): flags, of which bit 0 is extended and none above defined; length, a number of bytes that is listed; identifier.
+-- Its 64 data bytes follow. The length is one of 0 to 8, 12, 16, 20, 24, 32, 48 and 64
+unfoldable pub fdLength : ℕ → Bool
+fdLength n = leb n 8 || (eqb n 12 || (eqb n 16 || (eqb n 20 || (eqb n 24 || (eqb n 32 || (eqb n 48 || eqb n 64))))))
+
+abbrev pub fdHeader : List ℕ → FrameHeader
+fdHeader s = record { id = le32 s 4; «is_extended» = eqb (getD s 2 0) 1; «is_remote» = false; «is_fd» = true; length = getD s 3 0 }
+
+unfoldable pub fdFrameOf : List ℕ → Front
+fdFrameOf s = cond (leb 2 (getD s 2 0)) (fault 13) (cond (fdLength (getD s 3 0)) (frame (fdHeader s)) (fault 14))
 
 -- ---- the record that a mark is the mark of, s being its bytes
 abbrev pub recordOf : List ℕ → Mark → Front
@@ -119,6 +143,7 @@ recordOf s Mark.Settings = settingsOf s
 recordOf s Mark.Definition = defineOf s
 recordOf s Mark.Removal = removeOf s
 recordOf s Mark.Frame = frameOf s
+recordOf s Mark.FdFrame = fdFrameOf s
 recordOf s Mark.Unknown = fault 10
 
 -- after n sound records: the first has to be the settings, and no later one may be
@@ -127,6 +152,7 @@ misplaced n Mark.Settings = not (eqb n 0)
 misplaced n Mark.Definition = eqb n 0
 misplaced n Mark.Removal = eqb n 0
 misplaced n Mark.Frame = eqb n 0
+misplaced n Mark.FdFrame = eqb n 0
 misplaced n Mark.Unknown = false
 
 -- behind a mark: a record that is cut waits for its rest, one at a wrong place stops with 12, and else its own bytes decide

@@ -2,11 +2,12 @@
 ghost use mathlib.Core.Path.{_≡_};
 ghost use Prim.Native.Nat.{_+_, _<_};
 ghost use lib.ListN.{length};
-ghost use Rattle.log.specs.Records.{itemMeans, le16, le32, markOf, sizeOf, settingsOf, defineOf, removeOf, frameOf, recordOf, itemOf, misplaced, badFlags, conditionOf, orderOf};
+ghost use Rattle.log.specs.Records.{itemMeans, le16, le32, markOf, sizeOf, settingsOf, defineOf, removeOf, frameOf, fdLength, fdFrameOf, recordOf, itemOf, misplaced, badFlags, conditionOf, orderOf};
 use bits::ByteOrder;
 use conversion::Condition;
 use conversion::SignalDefinition;
 use conversion::f32_of_bits;
+use frames::FrameHeader;
 
 // The two bytes in front of a record.
 pub enum Mark {
@@ -14,6 +15,7 @@ pub enum Mark {
     Definition,
     Removal,
     Frame,
+    FdFrame,
     Unknown,
 }
 
@@ -29,8 +31,8 @@ pub enum Item {
     // the bytes at hand are none, or a part of a record
     Wait,
     Call(Request),
-    // a frame's identifier, whether that is extended, whether the frame is remote, and its length: its eight data bytes stand at 8
-    Frame(u32, bool, bool, u8),
+    // a frame, whose data bytes stand at 8: eight of a classic one, and 64 of an FD one
+    Frame(FrameHeader),
     // the log stops, with this number
     Stop(u8),
 }
@@ -80,6 +82,9 @@ fn mark_of(a: u8, b: u8) -> Mark
         if b == 0x46 {
             return Mark::Frame;
         }
+        if b == 0x58 {
+            return Mark::FdFrame;
+        }
         return Mark::Unknown;
     }
     Mark::Unknown
@@ -94,6 +99,7 @@ fn size_of(k: Mark) -> usize
         Mark::Definition => 24,
         Mark::Removal => 4,
         Mark::Frame => 16,
+        Mark::FdFrame => 72,
         Mark::Unknown => 2,
     }
 }
@@ -182,7 +188,47 @@ fn frame(s: &[u8]) -> Item
     if length > 15 {
         return Item::Stop(14);
     }
-    Item::Frame(u32_at(s, 4), flags % 2 == 1, flags / 2 % 2 == 1, length)
+    Item::Frame(FrameHeader {
+        id: u32_at(s, 4),
+        is_extended: flags % 2 == 1,
+        is_remote: flags / 2 % 2 == 1,
+        is_fd: false,
+        length,
+    })
+}
+
+// Whether an FD frame can have so many bytes.
+fn is_fd_length(n: u8) -> bool
+    ensures { λ r. ⌜ r ≡ fdLength n ⌝ }
+{
+    if n <= 8 {
+        return true;
+    }
+    match n {
+        12 | 16 | 20 | 24 | 32 | 48 | 64 => true,
+        _ => false,
+    }
+}
+
+fn fd_frame(s: &[u8]) -> Item
+    requires { ⌜ length (now s) ≡ 72 ⌝ }
+    ensures { λ r. ⌜ itemMeans r ≡ fdFrameOf (now (s .entry)) ⌝ }
+{
+    let flags = s[2];
+    let length = s[3];
+    if flags >= 2 {
+        return Item::Stop(13);
+    }
+    if !is_fd_length(length) {
+        return Item::Stop(14);
+    }
+    Item::Frame(FrameHeader {
+        id: u32_at(s, 4),
+        is_extended: flags == 1,
+        is_remote: false,
+        is_fd: true,
+        length,
+    })
 }
 
 // The record whose mark is k and whose bytes are s.
@@ -195,6 +241,7 @@ fn record_of(s: &[u8], k: Mark) -> Item
         Mark::Definition => define(s),
         Mark::Removal => remove(s),
         Mark::Frame => frame(s),
+        Mark::FdFrame => fd_frame(s),
         Mark::Unknown => Item::Stop(10),
     }
 }
@@ -208,6 +255,7 @@ fn is_misplaced(count: u32, k: Mark) -> bool
         Mark::Definition => count == 0,
         Mark::Removal => count == 0,
         Mark::Frame => count == 0,
+        Mark::FdFrame => count == 0,
         Mark::Unknown => false,
     }
 }

@@ -3,7 +3,7 @@ ghost use mathlib.Core.Path.{_≡_};
 ghost use Prim.Native.Nat.{_+_, _<_, _≤_};
 ghost use lib.ListN.{length};
 ghost use Rattle.log.specs.Records.{requestMeans};
-ghost use Rattle.log.specs.Output.{startOf, frameAt, statusMeans, goesOn, lastNumber, stopStep, waitStep, settledStep, calledStep, requestStep};
+ghost use Rattle.log.specs.Output.{startOf, dataSize, statusMeans, goesOn, lastNumber, stopStep, waitStep, settledStep, calledStep, requestStep};
 ghost use Rattle.log.specs.Pieces.{Does, after, answerOf, soundOf, advanceOf};
 use crate::decode::Item;
 use crate::decode::Request;
@@ -11,8 +11,8 @@ use crate::decode::item_at_front;
 use crate::lines::put_anomalies;
 use crate::lines::put_answer;
 use crate::lines::put_end;
-use frames::CanFrame;
-use frames::process_frame;
+use frames::FrameHeader;
+use frames::process_lent_frame;
 use table::Answer;
 use table::Defined;
 use table::SignalIdsEngine;
@@ -80,19 +80,11 @@ fn sound(log: Log, engine: SignalIdsEngine, used: usize, end: usize) -> Step
     answer(next, used, end, Status::Going)
 }
 
-// The frame whose header was read at the front of s: its data bytes stand behind.
-fn frame_of(id: u32, is_extended: bool, is_remote: bool, len: u8, s: &[u8]) -> CanFrame
-    requires { ⌜ 16 ≤ length (now s) ⌝ }
-    ensures { λ r. ⌜ r ≡ frameAt id «is_extended» «is_remote» len (now (s .entry)) ⌝ }
+// How many data bytes a frame's record has.
+fn data_size(header: FrameHeader) -> usize
+    ensures { λ r. ⌜ r ≡ dataSize header ⌝ }
 {
-    let data = [s[8], s[9], s[10], s[11], s[12], s[13], s[14], s[15]];
-    CanFrame {
-        id,
-        is_extended,
-        is_remote,
-        length: len,
-        data,
-    }
+    if header.is_fd { 64 } else { 8 }
 }
 
 // The stopping number where the input ends with so many bytes that are no whole record.
@@ -212,14 +204,15 @@ pub fn advance(log: Log, s: &[u8], ended: bool, out: &mut [u8]) -> Step
                 engine = next.engine;
                 count = next.count;
             }
-            Item::Frame(id, is_extended, is_remote, length) => {
-                let frame = frame_of(id, is_extended, is_remote, length, &s[used..]);
-                let done = process_frame(engine, frame);
+            Item::Frame(header) => {
+                let at = used + 8;
+                let behind = at + data_size(header);
+                let done = process_lent_frame(engine, header, &s[at..behind]);
                 engine = done.engine;
                 let result = done.result;
                 let listed = result.anomalies;
                 count += 1;
-                used += 16;
+                used = behind;
                 end = put_anomalies(out, end, count, listed, result.anomaly_count);
             }
         }

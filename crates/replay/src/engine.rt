@@ -1,5 +1,6 @@
 // Calls on the engine that the script keeps.
 use crate::framing::frame;
+use crate::framing::lent_frame;
 use crate::framing::raw_frame;
 use crate::script::definition;
 use crate::script::float;
@@ -186,7 +187,7 @@ fn show(e: SignalIdsEngine, out: &mut [u8], at: usize) -> usize {
 
 pub fn is_call(letter: u8) -> bool {
     match letter {
-        b'e' | b'd' | b'b' | b'm' | b'y' | b'f' | b'g' | b's' => true,
+        b'e' | b'd' | b'b' | b'm' | b'y' | b'f' | b'F' | b'g' | b's' => true,
         _ => false,
     }
 }
@@ -202,6 +203,9 @@ fn on_rows(
 ) -> Told {
     if letter == b'f' {
         return frame(e, s, data, out, at);
+    }
+    if letter == b'F' {
+        return lent_frame(e, s, data, out, at);
     }
     if letter == b'g' {
         return raw_frame(e, s, data, out, at);
@@ -230,7 +234,7 @@ fn on_table(e: SignalIdsEngine, letter: u8, s: &[u8], out: &mut [u8], at: usize)
 
 fn is_on_rows(letter: u8) -> bool {
     match letter {
-        b'f' | b'g' | b's' => true,
+        b'f' | b'F' | b'g' | b's' => true,
         _ => false,
     }
 }

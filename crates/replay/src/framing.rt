@@ -11,6 +11,7 @@ use crate::show::put_words;
 use conversion::bits_of_f32;
 use frames::CanFrame;
 use frames::Counts;
+use frames::FrameHeader;
 use frames::Outcome;
 use frames::Processed;
 use frames::Reason;
@@ -18,6 +19,7 @@ use frames::Report;
 use frames::SignalAnomaly;
 use frames::SignalIdsResult;
 use frames::process_frame;
+use frames::process_lent_frame;
 use frames::process_raw_frame;
 use table::SignalIdsEngine;
 
@@ -115,11 +117,11 @@ fn answered(done: Processed, letter: u8, out: &mut [u8], at: usize) -> Told {
     }
 }
 
-// The first eight bytes, 0 where there are fewer.
-fn eight(data: &[u8]) -> [u8; 8] {
-    let mut d = [0u8; 8];
+// The data of a frame: the first 64 bytes, 0 where there are fewer.
+fn frame_data(data: &[u8]) -> [u8; 64] {
+    let mut d = [0u8; 64];
     let mut i = 0usize;
-    while i < 8 {
+    while i < 64 {
         if data.len() <= i {
             return d;
         }
@@ -129,21 +131,57 @@ fn eight(data: &[u8]) -> [u8; 8] {
     d
 }
 
-// `f`: a frame, its flags as those of a log's record.
-pub fn frame(e: SignalIdsEngine, s: &[u8], data: &mut [u8], out: &mut [u8], at: usize) -> Told {
+// A frame's identifier, flags and length, its flags as those of a log's record and bit 2 for FD, and the place behind them.
+struct HeaderRead {
+    header: FrameHeader,
+    next: usize,
+}
+
+fn headed(s: &[u8]) -> HeaderRead {
     let id = number(s, 2);
     let flags = number(s, id.next);
     let length = number(s, flags.next);
-    let n = bytes(s, length.next, data);
-    let d = eight(&data[..n]);
+    HeaderRead {
+        header: FrameHeader {
+            id: low32(id.value),
+            is_extended: flags.value % 2 == 1,
+            is_remote: flags.value / 2 % 2 == 1,
+            is_fd: flags.value / 4 % 2 == 1,
+            length: low8(length.value),
+        },
+        next: length.next,
+    }
+}
+
+// `f`: a frame.
+pub fn frame(e: SignalIdsEngine, s: &[u8], data: &mut [u8], out: &mut [u8], at: usize) -> Told {
+    let h = headed(s);
+    let n = bytes(s, h.next, data);
+    let d = frame_data(&data[..n]);
+    let header = h.header;
     let f = CanFrame {
-        id: low32(id.value),
-        is_extended: flags.value % 2 == 1,
-        is_remote: flags.value / 2 % 2 == 1,
-        length: low8(length.value),
+        id: header.id,
+        is_extended: header.is_extended,
+        is_remote: header.is_remote,
+        is_fd: header.is_fd,
+        length: header.length,
         data: d,
     };
     answered(process_frame(e, f), b'f', out, at)
+}
+
+// `F`: a frame whose data bytes are lent.
+pub fn lent_frame(
+    e: SignalIdsEngine,
+    s: &[u8],
+    data: &mut [u8],
+    out: &mut [u8],
+    at: usize,
+) -> Told {
+    let h = headed(s);
+    let n = bytes(s, h.next, data);
+    let header = h.header;
+    answered(process_lent_frame(e, header, &data[..n]), b'F', out, at)
 }
 
 // `g`: a raw frame.

@@ -1,4 +1,4 @@
-//! The log of document 01, as amended by document 02, T-01, over the unchanged Rust.
+//! The log of document 01, as amended by document 02, T-01 and T-05, over the unchanged Rust.
 
 use crate::{float, refusal};
 use std::io::{Read, Write};
@@ -11,12 +11,27 @@ enum Next {
     Stop(u32),
 }
 
+/// How many remote frames and how many FD frames there were.
+#[derive(Clone, Copy, Default)]
+pub struct Counted {
+    pub remote: u64,
+    pub fd: u64,
+}
+
+impl Counted {
+    /// Both kinds of some more frames.
+    pub fn add(&mut self, more: Counted) {
+        self.remote += more.remote;
+        self.fd += more.fd;
+    }
+}
+
 struct Log<R: Read, W: Write> {
     input: R,
     out: W,
     engine: Option<Box<SignalIdsEngine>>,
     sound: u32,
-    remote: u64,
+    counted: Counted,
 }
 
 fn u16_at(b: &[u8], i: usize) -> u16 {
@@ -29,6 +44,13 @@ fn u32_at(b: &[u8], i: usize) -> u32 {
 
 fn f32_at(b: &[u8], i: usize) -> f32 {
     f32::from_bits(u32_at(b, i))
+}
+
+/// The frame of a record behind its mark, classic or FD; a classic one has eight data bytes, and zeros follow.
+fn frame_of(b: &[u8], is_fd: bool) -> CanFrame {
+    let mut data = [0; 64];
+    data[..b.len() - 6].copy_from_slice(&b[6..]);
+    CanFrame { id: u32_at(b, 2), is_extended: b[0] & 1 != 0, is_remote: b[0] & 2 != 0, is_fd, length: b[1], data }
 }
 
 /// The line of a table call, whose letter is D or R: what it answered, or the number of its refusal.
@@ -110,10 +132,24 @@ impl<R: Read, W: Write> Log<R, W> {
         if b[1] > 15 {
             return Next::Stop(14);
         }
-        let mut frame = CanFrame { id: u32_at(b, 2), is_extended: b[0] & 1 != 0, is_remote: b[0] & 2 != 0, length: b[1], data: [0; 8] };
-        frame.data.copy_from_slice(&b[6..14]);
-        self.remote += frame.is_remote as u64;
-        let result = self.engine.as_mut().expect("settings came first").process_frame(&frame);
+        let frame = frame_of(b, false);
+        self.counted.remote += frame.is_remote as u64;
+        self.process(&frame)
+    }
+
+    fn fd_frame(&mut self, b: &[u8]) -> Next {
+        if b[0] & !0b1 != 0 {
+            return Next::Stop(13);
+        }
+        if !matches!(b[1], 0..=8 | 12 | 16 | 20 | 24 | 32 | 48 | 64) {
+            return Next::Stop(14);
+        }
+        self.counted.fd += 1;
+        self.process(&frame_of(b, true))
+    }
+
+    fn process(&mut self, frame: &CanFrame) -> Next {
+        let result = self.engine.as_mut().expect("settings came first").process_frame(frame);
         for a in &result.anomalies[..result.anomaly_count as usize] {
             anomaly_line(&mut self.out, self.sound + 1, a.signal_index, a.z_score, a.physical_value);
         }
@@ -138,9 +174,10 @@ impl<R: Read, W: Write> Log<R, W> {
             [0xA5, 0x44] => 22,
             [0xA5, 0x52] => 2,
             [0xA5, 0x46] => 14,
+            [0xA5, 0x58] => 70,
             _ => return Next::Stop(10),
         };
-        let mut body = [0u8; 22];
+        let mut body = [0u8; 70];
         if self.fill(&mut body[..rest]) < rest {
             return Next::Stop(11);
         }
@@ -151,7 +188,8 @@ impl<R: Read, W: Write> Log<R, W> {
             0x50 => self.settings(&body[..rest]),
             0x44 => self.define(&body[..rest]),
             0x52 => self.remove(&body[..rest]),
-            _ => self.frame(&body[..rest]),
+            0x46 => self.frame(&body[..rest]),
+            _ => self.fd_frame(&body[..rest]),
         }
     }
 
@@ -168,9 +206,9 @@ impl<R: Read, W: Write> Log<R, W> {
     }
 }
 
-/// Prints all that the log program prints for an input, and answers how many remote frames were among its sound records.
-pub fn run(input: impl Read, out: impl Write) -> u64 {
-    let mut log = Log { input, out, engine: None, sound: 0, remote: 0 };
+/// Prints all that the log program prints for an input, and answers how many remote and FD frames were among its sound records.
+pub fn run(input: impl Read, out: impl Write) -> Counted {
+    let mut log = Log { input, out, engine: None, sound: 0, counted: Counted::default() };
     log.run();
-    log.remote
+    log.counted
 }

@@ -195,7 +195,30 @@ pub fn roots(out: &mut String, d: &mut Dice, calls: usize) {
     }
 }
 
-fn definition(d: &mut Dice, ids: &[u64], wild: bool) -> String {
+/// Which frames a script has: classic ones, FD frames too, or lent frames as well. But for the first, half of the signals may stand in any of 64 bytes.
+#[derive(Clone, Copy, PartialEq)]
+pub enum Frames {
+    Classic,
+    Mixed,
+    Lent,
+}
+
+/// The lengths that a log has of FD frames.
+pub const FD_LENGTHS: [u64; 16] = [0, 1, 2, 3, 4, 5, 6, 7, 8, 12, 16, 20, 24, 32, 48, 64];
+
+/// Numbers of bytes at and beside those that a classic frame and an FD frame carry at most.
+pub const GIVEN: [usize; 9] = [0, 1, 7, 8, 9, 63, 64, 65, 300];
+
+/// A start in 64 bytes, at times the last one at which an Intel signal of the length is inside, or the one behind it.
+fn far_start(d: &mut Dice, length: u64) -> u64 {
+    match d.below(6) {
+        0 => 512 - length + d.below(2),
+        1 => d.of(&[56, 59, 60, 63, 64, 71, 448, 455, 504, 511]),
+        _ => d.below(512),
+    }
+}
+
+fn definition(d: &mut Dice, ids: &[u64], wild: bool, frames: Frames) -> String {
     let extended = d.below(2);
     let (start, mut length, _, _) = place(d);
     let id = if wild && d.one_in(8) {
@@ -209,6 +232,7 @@ fn definition(d: &mut Dice, ids: &[u64], wild: bool) -> String {
         length = if multiplexor == 1 { 2 + length % 15 } else { 2 + length % 63 };
     }
     let start = if d.one_in(6) { start } else { start % 64 };
+    let start = if frames != Frames::Classic && d.one_in(2) { far_start(d, length) } else { start };
     let (scale, offset) = if wild && d.one_in(4) {
         (any_float(d), any_float(d))
     } else {
@@ -235,7 +259,7 @@ pub fn values(out: &mut String, d: &mut Dice, calls: usize) {
         }
     }
     for _ in 0..calls {
-        let text = definition(d, &[0, 1, 2], true);
+        let text = definition(d, &[0, 1, 2], true, Frames::Classic);
         let (_, _, n, data) = place(d);
         let text = if d.one_in(2) {
             let fields: Vec<&str> = text.split(' ').collect();
@@ -331,14 +355,14 @@ fn ids(d: &mut Dice) -> Vec<u64> {
 }
 
 /// Table calls and frames on one engine that is there; the table is shown after each call, or at the end alone.
-pub fn one_engine(out: &mut String, d: &mut Dice, calls: usize, often: bool) {
+pub fn one_engine(out: &mut String, d: &mut Dice, calls: usize, often: bool, frames: Frames) {
     out.push_str("e 3F000000 40000000\n");
     let ids = ids(d);
     for i in 0..calls {
         if i < 12 || d.one_in(12) {
-            table_call(out, d, &ids, false);
+            table_call(out, d, &ids, false, frames);
         } else {
-            frame(out, d, &ids);
+            frame(out, d, &ids, frames);
         }
         if often {
             out.push_str("s\n");
@@ -348,7 +372,7 @@ pub fn one_engine(out: &mut String, d: &mut Dice, calls: usize, often: bool) {
 }
 
 /// Table calls and frames on one engine; the whole table is shown once in so many calls.
-pub fn engines(out: &mut String, d: &mut Dice, calls: usize, shows: u64) {
+pub fn engines(out: &mut String, d: &mut Dice, calls: usize, shows: u64, frames: Frames) {
     let mut left = calls as i64;
     while left > 0 {
         let (alpha, threshold) = if d.one_in(20) { (any_float(d), any_float(d)) } else { (d.of(&[0x3F00_0000, 0x3DCC_CCCD, 0x3F80_0000]), d.of(&[0x4040_0000, 0, 0x3F80_0000])) };
@@ -362,9 +386,9 @@ pub fn engines(out: &mut String, d: &mut Dice, calls: usize, shows: u64) {
         let table = d.of(&[2, 6, 20]);
         for _ in 0..steps {
             if d.one_in(table) {
-                table_call(out, d, &ids, wild);
+                table_call(out, d, &ids, wild, frames);
             } else {
-                frame(out, d, &ids);
+                frame(out, d, &ids, frames);
             }
             if d.one_in(shows) {
                 out.push_str("s\n");
@@ -375,7 +399,7 @@ pub fn engines(out: &mut String, d: &mut Dice, calls: usize, shows: u64) {
     }
 }
 
-fn table_call(out: &mut String, d: &mut Dice, ids: &[u64], wild: bool) {
+fn table_call(out: &mut String, d: &mut Dice, ids: &[u64], wild: bool, frames: Frames) {
     match d.below(8) {
         0 | 1 => {
             let _ = writeln!(out, "m {:X}", if d.one_in(10) { d.below(65536) } else { d.below(40) });
@@ -385,21 +409,27 @@ fn table_call(out: &mut String, d: &mut Dice, ids: &[u64], wild: bool) {
             let _ = write!(out, "b {n:X}");
             let bad = d.below(n.max(1) * 2);
             for i in 0..n {
-                let text = definition(d, ids, wild && i == bad);
+                let text = definition(d, ids, wild && i == bad, frames);
                 let _ = write!(out, " {text}");
             }
             out.push('\n');
         }
         _ => {
-            let text = definition(d, ids, wild);
+            let text = definition(d, ids, wild, frames);
             let _ = writeln!(out, "d {text}");
         }
     }
 }
 
-fn frame(out: &mut String, d: &mut Dice, ids: &[u64]) {
+fn frame(out: &mut String, d: &mut Dice, ids: &[u64], frames: Frames) {
     let id = if d.one_in(8) { d.of(&[0x900, 0x7FF, 0, 0xFFFF_FFFF]) } else { d.of(ids) };
-    let data = match d.below(4) {
+    if frames == Frames::Lent && d.one_in(3) {
+        return lent_frame(out, d, id);
+    }
+    if frames != Frames::Classic && d.one_in(3) {
+        return fd_frame(out, d, id);
+    }
+    let mut data = match d.below(4) {
         0 => d.bytes(8),
         1 => vec![d.below(4) as u8; 8],
         _ => (0..8).map(|i| if i < 2 { d.below(4) as u8 } else { 0 }).collect(),
@@ -410,11 +440,69 @@ fn frame(out: &mut String, d: &mut Dice, ids: &[u64]) {
         let len = if d.one_in(3) { d.below(n as u64 + 3) } else { n as u64 };
         let _ = writeln!(out, "g {id:X} {len:X} {}", hex(&data));
     } else {
-        let id = if d.one_in(6) { id + 0x800 * d.below(4) } else { id };
-        let id = if d.one_in(6) { id + (d.below(8) << 29) } else { id };
-        let length = if d.one_in(4) { d.of(&[0, 1, 2, 3, 4, 5, 6, 7, 9, 12, 15, 255]) } else { 8 };
-        let _ = writeln!(out, "f {:X} {} {length:X} {}", id & 0xFFFF_FFFF, frame_flags(d), hex(&data));
+        let id = unmasked(d, id);
+        let length = classic_length(d);
+        if frames != Frames::Classic && d.one_in(2) {
+            data.extend(d.bytes(56));
+        }
+        let _ = writeln!(out, "f {id:X} {} {length:X} {}", frame_flags(d), hex(&data));
     }
+}
+
+/// An identifier, now and then with bits above its mask.
+fn unmasked(d: &mut Dice, id: u64) -> u64 {
+    let id = if d.one_in(6) { id + 0x800 * d.below(4) } else { id };
+    let id = if d.one_in(6) { id + (d.below(8) << 29) } else { id };
+    id & 0xFFFF_FFFF
+}
+
+/// The length of a classic frame, most often 8.
+fn classic_length(d: &mut Dice) -> u64 {
+    if d.one_in(4) {
+        d.of(&[0, 1, 2, 3, 4, 5, 6, 7, 9, 12, 15, 255])
+    } else {
+        8
+    }
+}
+
+/// The length of an FD frame: any, most often one that a log has.
+fn fd_length(d: &mut Dice) -> u64 {
+    match d.below(4) {
+        0 => d.below(256),
+        1 => d.of(&FD_LENGTHS),
+        _ => 64,
+    }
+}
+
+/// Small bytes, but for once in four.
+fn small_bytes(d: &mut Dice, n: usize) -> Vec<u8> {
+    match d.below(4) {
+        0 => d.bytes(n),
+        1 => vec![d.below(4) as u8; n],
+        _ => (0..n).map(|_| if d.one_in(4) { d.below(4) as u8 } else { 0 }).collect(),
+    }
+}
+
+/// An FD frame with 64 bytes or another number of them, and once in eight with the remote flag.
+fn fd_frame(out: &mut String, d: &mut Dice, id: u64) {
+    let id = unmasked(d, id);
+    let length = fd_length(d);
+    let given = d.of(&[64, 64, 64, 64, 64, 64, 0, 8, 9, 63, 65, 100]) as usize;
+    let data = small_bytes(d, given);
+    let _ = writeln!(out, "f {id:X} {} {length:X} {}", 4 + frame_flags(d), hex(&data));
+}
+
+/// A lent frame, classic or FD: with as many bytes as its length says, with fewer or one more, or with another number of them.
+fn lent_frame(out: &mut String, d: &mut Dice, id: u64) {
+    let id = unmasked(d, id);
+    let (fd, length) = if d.one_in(2) { (4, fd_length(d)) } else { (0, classic_length(d)) };
+    let lent = match d.below(4) {
+        0 => GIVEN[d.below(9) as usize],
+        1 => d.below(length + 2) as usize,
+        _ => length as usize,
+    };
+    let data = small_bytes(d, lent);
+    let _ = writeln!(out, "F {id:X} {} {length:X} {}", fd + frame_flags(d), hex(&data));
 }
 
 /// The flags of a frame: extended half the time, and remote once in eight.
@@ -503,16 +591,118 @@ pub fn reasons(out: &mut String, lengths: &[u64], step: usize) {
     }
 }
 
+/// Frames of each of the lengths and of every kind, by the letter of their call: classic and FD, remote and not, with each number of bytes. A table has a signal
+/// in each of 64 bytes, in both byte orders by turns: how many of them are outside tells how long the payload is.
+pub fn payloads(out: &mut String, letter: char, lengths: &[u64], given: &[usize]) {
+    for extended in 0..2 {
+        out.push_str("e 3F000000 40400000\n");
+        for byte in 0..64 {
+            let order = byte % 2;
+            let _ = writeln!(out, "d 100 {extended} {:X} 8 {order} 3F800000 0 0 0 0 0", 8 * byte + 7 * order);
+        }
+        for (length, n) in pairs(lengths, given) {
+            let data: Vec<u8> = (0..n as u64).map(|byte| ((byte ^ length) % 4) as u8).collect();
+            for kind in 0..4 {
+                let _ = writeln!(out, "{letter} 100 {} {length:X} {}", extended + 2 * kind, hex(&data));
+            }
+        }
+        out.push_str("s\n");
+    }
+}
+
+/// Each of the lengths with each number of bytes.
+fn pairs<'a>(lengths: &'a [u64], given: &'a [usize]) -> impl Iterator<Item = (u64, usize)> + 'a {
+    lengths.iter().flat_map(move |length| given.iter().map(move |n| (*length, *n)))
+}
+
+/// Starts, lengths and byte orders of signals across byte 8 and up to the last bit of 64 bytes, and of two that end behind it.
+const FAR_PLACES: [(u64, u64, u64); 16] = [
+    (0, 8, 0), (60, 8, 0), (59, 8, 1), (60, 64, 0), (59, 64, 1), (64, 8, 0), (71, 8, 1), (300, 12, 0), (448, 64, 0), (455, 64, 1), (504, 8, 0), (511, 8, 1),
+    (511, 1, 0), (504, 1, 1), (505, 8, 0), (510, 8, 1),
+];
+
+/// FD frames of each of the lengths, by the letter of their call, of both types, with the remote flag and without, with each number of bytes. What stands behind
+/// their length is far off, and so is what stands behind the eighth byte of the classic frames between them. A table has the same for both types: the far
+/// places, a multiplexor in byte 40, and signals before and behind it at each of two of its numbers.
+pub fn far_signals(out: &mut String, letter: char, lengths: &[u64], given: &[usize]) {
+    out.push_str("e 3F000000 40400000\n");
+    for extended in 0..2 {
+        for (start, length, order) in FAR_PLACES {
+            let _ = writeln!(out, "d 100 {extended} {start:X} {length:X} {order} 3F800000 0 0 0 0 0");
+        }
+        for (start, condition) in [8, 64, 328, 504].into_iter().flat_map(|start| [(start, 0x10000), (start, 0x10001)]) {
+            let _ = writeln!(out, "d 100 {extended} {start:X} 8 0 3F800000 0 0 0 0 {condition:X}");
+        }
+        let _ = writeln!(out, "d 100 {extended} {:X} 8 0 3F800000 0 0 0 1 0", 8 * 40);
+    }
+    for (length, n) in pairs(lengths, given) {
+        for flags in 0..4 {
+            let number = ((length + flags) % 3) as u8;
+            let far = |from: u64| hex(&(0..n as u64).map(|byte| if byte < from { number } else { 0xFF }).collect::<Vec<_>>());
+            let _ = writeln!(out, "{letter} 100 {} {:X} {}\n{letter} 100 {} {length:X} {}", flags % 2, length % 16, far(8), flags + 4, far(length));
+        }
+    }
+    let _ = writeln!(out, "{letter} 100 4 40 {0}\n{letter} 100 5 40 {0}\ns", hex(&[0xFF; 64]));
+}
+
+/// Frames whose calls have fewer bytes than a frame, and more, by the letter of the call: zeros follow, or nothing where the bytes are lent, and what is behind
+/// the 64th counts for nothing.
+pub fn given_bytes(out: &mut String, letter: char) {
+    out.push_str("e 3F000000 40400000\n");
+    for byte in [0, 7, 8, 62, 63] {
+        let _ = writeln!(out, "d 100 0 {:X} 8 0 3F800000 0 0 0 0 0", 8 * byte);
+    }
+    for n in [64, 0, 1, 7, 8, 9, 62, 63, 65, 100, 300] {
+        for flags in [0, 4] {
+            let _ = writeln!(out, "{letter} 100 {flags} FF {}", hex(&vec![1; n]));
+        }
+    }
+    out.push_str("s\n");
+}
+
+/// Multiplexors whose last bit stands in the last lent byte, or behind it. All bytes are 0 and so is the condition's number: zeros in place of bytes that are
+/// not lent would make it hold.
+pub fn lent_multiplexors(out: &mut String) {
+    for (start, length, order, last) in [(0, 8, 0, 0), (60, 8, 0, 8), (59, 16, 1, 9), (320, 16, 0, 41), (504, 8, 0, 63), (511, 1, 1, 63)] {
+        for extended in 0..2 {
+            let _ = writeln!(out, "e 3F000000 40400000\nd 100 {extended} {start:X} {length:X} {order} 3F800000 0 0 0 1 0");
+            let _ = writeln!(out, "b 2 100 {extended} 0 8 0 3F800000 0 0 0 0 10000 100 {extended} 0 1 0 3F800000 0 0 0 0 0");
+            for (lent, flags) in [last, last + 1, 300].into_iter().flat_map(|lent| [(lent, 0), (lent, 4)]) {
+                let _ = writeln!(out, "F 100 {} 40 {}", extended + flags, hex(&vec![0; lent]));
+            }
+        }
+    }
+    out.push_str("s\n");
+}
+
+const SETTINGS: [u8; 10] = [0xA5, 0x50, 0, 0, 0, 0x3F, 0, 0, 0x40, 0x40];
+
+/// Flags of every kind.
+const FLAGS: [u8; 17] = [0, 1, 2, 3, 4, 5, 6, 7, 8, 15, 16, 32, 64, 128, 253, 254, 255];
+
 /// Short logs that end in a frame with flags and a length of every kind.
 pub fn flagged_logs() -> Vec<Vec<u8>> {
     let mut logs = Vec::new();
-    for flags in (0..=8).chain([15, 16, 32, 64, 128, 253, 254, 255]) {
+    for flags in FLAGS {
         for length in [0, 1, 8, 9, 15, 16, 255] {
-            let mut log = vec![0xA5, 0x50, 0, 0, 0, 0x3F, 0, 0, 0x40, 0x40];
+            let mut log = SETTINGS.to_vec();
             log.extend([0xA5, 0x46, flags, length, 0, 1, 0, 0, 1, 2, 3, 4, 5, 6, 7, 8]);
             logs.push(log);
         }
     }
+    logs
+}
+
+/// Short logs that end in an FD frame: with every length, with flags and a length of every kind, cut at each byte, and with nothing before it.
+pub fn fd_logs() -> Vec<Vec<u8>> {
+    let with = |flags, length| [&SETTINGS[..], &[0xA5, 0x58, flags, length, 0, 1, 0, 0], &[length; 64]].concat();
+    let mut logs: Vec<Vec<u8>> = (0..=255).map(|length| with(0, length)).collect();
+    for flags in FLAGS {
+        logs.extend([0, 1, 8, 9, 12, 15, 16, 64, 65, 255].map(|length| with(flags, length)));
+    }
+    let (start, wrong) = (SETTINGS.len(), with(255, 255));
+    logs.extend((start..wrong.len()).map(|end| wrong[..end].to_vec()));
+    logs.extend([wrong[start..].to_vec(), wrong[start..wrong.len() - 1].to_vec()]);
     logs
 }
 
@@ -742,7 +932,8 @@ pub fn ratios(out: &mut String, step: usize) {
     for (i, count) in COUNTS.into_iter().enumerate() {
         let _ = writeln!(out, "C 1 {count:X}\nW 3 0\nT 5 {count:X}");
         for total in COUNTS.into_iter().skip(i % step).step_by(step) {
-            let ratio = (count as f32 / total as f32).to_bits();
+            // 0 / 0 has a sign on x86-64 and none elsewhere; the script is to be the same.
+            let ratio = if (count, total) == (0, 0) { 0xFFC0_0000 } else { (count as f32 / total as f32).to_bits() };
             let _ = writeln!(out, "V 3 {total:X} 0 1 0 0 0\nP 3 40\nJ 3 40 {ratio:X}\nJ 3 40 {:X}\nU 1 {total:X}\nQ 9 3 40 5", ratio + 1);
         }
     }
@@ -856,7 +1047,7 @@ pub fn models(out: &mut String, d: &mut Dice, calls: usize) {
 }
 
 fn push_definition(log: &mut Vec<u8>, d: &mut Dice, ids: &[u64], wild: bool) {
-    let text = definition(d, ids, wild);
+    let text = definition(d, ids, wild, Frames::Mixed);
     let f: Vec<u64> = text.split(' ').map(|x| u64::from_str_radix(x, 16).expect("a number")).collect();
     let flags = f[1] | f[4] << 1 | f[8] << 2 | f[9] << 3 | ((f[10] != 0) as u64) << 4;
     log.extend([0xA5, 0x44]);
@@ -873,14 +1064,19 @@ fn push_definition(log: &mut Vec<u8>, d: &mut Dice, ids: &[u64], wild: bool) {
 fn push_frame(log: &mut Vec<u8>, d: &mut Dice, ids: &[u64]) {
     let id = if d.one_in(8) { d.next() } else { d.of(ids) };
     let quiet = !d.one_in(12);
-    log.extend([0xA5, 0x46, frame_flags(d) as u8, if d.one_in(6) { d.below(16) as u8 } else { 8 }]);
+    let (mark, flags, length, size) = if d.one_in(3) {
+        (0x58, d.below(2), if d.one_in(2) { d.of(&FD_LENGTHS) } else { 64 }, 64)
+    } else {
+        (0x46, frame_flags(d), if d.one_in(6) { d.below(16) } else { 8 }, 8)
+    };
+    log.extend([0xA5, mark, flags as u8, length as u8]);
     log.extend((id as u32).to_le_bytes());
-    for _ in 0..8 {
+    for _ in 0..size {
         log.push(if quiet { d.below(2) as u8 } else { d.next() as u8 });
     }
 }
 
-/// A sound log of some records: settings, then definitions, removals and frames.
+/// A sound log of some records: settings, then definitions, removals, and frames of which a third are FD frames.
 pub fn log(d: &mut Dice, records: usize) -> Vec<u8> {
     let mut log = vec![0xA5, 0x50];
     log.extend((d.of(&[0x3F00_0000, 0x3DCC_CCCD, 0x3F80_0000]) as u32).to_le_bytes());
@@ -903,17 +1099,26 @@ pub fn log(d: &mut Dice, records: usize) -> Vec<u8> {
     log
 }
 
-/// A log that came in damaged: cut, a byte changed, bytes lost or doubled.
+/// A log that came in damaged: cut, a byte changed, bytes lost or doubled, as many as a short record has or a long one, or the flags or the length of an FD frame
+/// changed.
 pub fn damage(d: &mut Dice, log: &mut Vec<u8>) {
     let at = d.below(log.len() as u64) as usize;
-    match d.below(6) {
+    let size = d.of(&[16, 72]);
+    match d.below(7) {
         0 => log.truncate(at),
         1 => log[at] ^= 1 << d.below(8),
         2 => log[at] = d.next() as u8,
-        3 => drop(log.drain(at..(at + 1 + d.below(16) as usize).min(log.len()))),
-        4 => log.insert(at, d.of(&[0, 0xA5, 0x46, 0xFF]) as u8),
+        3 => drop(log.drain(at..(at + 1 + d.below(size) as usize).min(log.len()))),
+        4 => log.insert(at, d.of(&[0, 0xA5, 0x46, 0x58, 0xFF]) as u8),
+        5 => {
+            let marks: Vec<u64> = (3..log.len() as u64).filter(|end| log[*end as usize - 3..].starts_with(&[0xA5, 0x58])).collect();
+            if !marks.is_empty() {
+                let head = (d.of(&marks) - d.below(2)) as usize;
+                log[head] = d.next() as u8 >> d.below(8);
+            }
+        }
         _ => {
-            let part = log[at..(at + 16).min(log.len())].to_vec();
+            let part = log[at..(at + size as usize).min(log.len())].to_vec();
             log.splice(at..at, part);
         }
     }

@@ -1,4 +1,4 @@
-//! A plain model, written from document 01 as amended by document 02, T-01 and T-02, of what the Rust has no counterpart for: why a signal has no value, the
+//! A plain model, written from document 01 as amended by document 02, T-01, T-02 and T-05, of what the Rust has no counterpart for: why a signal has no value, the
 //! writer, the case of a detector's answer, the outcome of each definition that applies to a frame with the counts, and a line of the log. Values, the
 //! multiplexor's number and detector steps are the Rust's, and the text of a line is that of the log program over the Rust.
 
@@ -224,13 +224,15 @@ impl Engine {
     }
 }
 
-/// The bytes that a frame carries: as many as its length says, and of a remote frame nothing at all.
-fn sent(flags: u64, length: usize, mut data: Vec<u8>) -> Vec<u8> {
-    data.truncate(length);
-    if matches!(flags % 4, 2 | 3) {
-        data.clear();
-    }
-    data
+/// The bytes that a frame carries, out of those that it has: as many as its length says, but of a classic frame no more than eight, and of a classic remote
+/// frame nothing at all. Flag bit 2 is FD, and with it bit 1 says nothing.
+fn sent(flags: u64, length: usize, data: Vec<u8>) -> Vec<u8> {
+    let room = match flags % 8 / 2 {
+        0 => 8,
+        1 => 0,
+        _ => 64,
+    };
+    data.into_iter().take(length).take(room).collect()
 }
 
 /// The detector and the engine that a script acts on.
@@ -287,8 +289,11 @@ impl Machine {
                     }
                 }
             }
-            "f" => {
-                let (id, flags, length, data) = (f.number() as u32, f.number(), f.number() as usize, f.bytes());
+            "f" | "F" => {
+                let (id, flags, length, mut data) = (f.number() as u32, f.number(), f.number() as usize, f.bytes());
+                if letter == "f" {
+                    data.resize(64, 0);
+                }
                 let extended = flags % 2 == 1;
                 let id = id % if extended { 1 << 29 } else { 1 << 11 };
                 let sent = sent(flags, length, data);

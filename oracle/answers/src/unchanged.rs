@@ -1,6 +1,6 @@
 //! The answers of the unchanged Rust, with the model's number for each `None` of extraction. What the Rust has no counterpart for is left out.
 
-use crate::{definition, detector, float, model, refusal, Fields};
+use crate::{definition, detector, float, host, model, refusal, Fields};
 use vs_anomaly::{look as inner, EwmaDetector};
 use vs_can_monitor::CanFrame;
 use vs_signal_ids::{look, SignalDefinition, SignalIdsEngine, SignalIdsResult};
@@ -21,6 +21,43 @@ fn told(letter: &str, answer: Result<Option<usize>, vs_types::VsError>) -> Strin
         Err(e) => (2, refusal(e) as usize),
     };
     format!("{letter} {case:08X} {number:08X}")
+}
+
+/// A frame's header, with zeros for data.
+fn header(f: &mut Fields) -> CanFrame {
+    let (id, flags, length) = (f.number() as u32, f.number(), f.number() as u8);
+    CanFrame { id, is_extended: flags & 1 != 0, is_remote: flags & 2 != 0, is_fd: flags & 4 != 0, length, data: [0; 64] }
+}
+
+/// A frame with the bytes as its data, as many as it has room for.
+fn filled(mut frame: CanFrame, bytes: &[u8]) -> CanFrame {
+    for (to, byte) in frame.data.iter_mut().zip(bytes) {
+        *to = *byte;
+    }
+    frame
+}
+
+/// Every field of a row's detector, as numbers.
+fn numbers(e: &SignalIdsEngine, i: usize) -> ([u32; 4], [u32; 5]) {
+    let (_, _, d) = look::row(e, i);
+    (inner::floats(&d).map(host::bits), inner::numbers(&d))
+}
+
+/// A lent frame as an FD frame's record of the bytes that count, which are at most 64. A standard one also goes, on a copy of the engine, to the Rust's call for
+/// raw frames, which takes lent bytes as they are: the answer and the detectors are to be the same.
+fn lent(e: &mut SignalIdsEngine, header: CanFrame, bytes: &[u8]) -> String {
+    let n = header.payload_len();
+    let record = filled(CanFrame { is_fd: true, length: n.min(bytes.len()) as u8, ..header }, bytes);
+    let mut other = look::copy(e);
+    let answer = listed("F", &e.process_frame(&record));
+    if header.is_extended {
+        return answer;
+    }
+    let raw = listed("F", &other.process_raw_frame(header.id & 0x7FF, bytes, n));
+    if raw == answer && (0..e.signal_count()).all(|i| numbers(e, i) == numbers(&other, i)) {
+        return answer;
+    }
+    format!("the Rust answers {answer} to a record and {raw} to lent bytes, or has other detectors then")
 }
 
 /// A detector's fields, all 0 where there is none.
@@ -79,11 +116,10 @@ impl Machine {
                 format!("y {:08X}", e.next_slot())
             }
             "f" => {
-                let (id, flags, length, data) = (f.number() as u32, f.number(), f.number() as u8, f.bytes());
-                let mut frame = CanFrame { id, is_extended: flags & 1 != 0, is_remote: flags & 2 != 0, length, data: [0; 8] };
-                frame.data.copy_from_slice(&data);
+                let frame = filled(header(f), &f.bytes());
                 listed("f", &e.process_frame(&frame))
             }
+            "F" => lent(e, header(f), &f.bytes()),
             "g" => {
                 let (id, n, data) = (f.number() as u32, f.number() as usize, f.bytes());
                 listed("g", &e.process_raw_frame(id, &data, n))
@@ -129,7 +165,7 @@ impl Machine {
                 Some(text)
             }
             "u" | "t" | "k" | "z" | "c" => self.on_detector(letter, f),
-            "d" | "b" | "m" | "y" | "f" | "g" | "s" => self.on_engine(letter, f),
+            "d" | "b" | "m" | "y" | "f" | "F" | "g" | "s" => self.on_engine(letter, f),
             _ => None,
         }
     }

@@ -1,4 +1,4 @@
--- `frames::process_frame` meets its contract: `process` of the effective identifier, the type, the eight bytes and the payload length.
+-- `frames::process_frame` meets its contract: `process` of the effective identifier, the type, the data bytes and the payload length.
 -- Assumes nothing.
 use mathlib.Core.Path.{ap, _∙_}
 use Prim.Native.Nat.{ℕ}

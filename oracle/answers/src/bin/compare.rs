@@ -1,14 +1,16 @@
 //! Holds the two programs beside the Rust: scripts of library calls, and logs. Stops at the first difference, which it makes small.
 
-use answers::{framelog, generate as g, models, Both};
+use answers::framelog::{self, Counted};
+use answers::{generate as g, models, Both};
 use std::fs::File;
 use std::io::{BufWriter, Write};
 use std::path::{Path, PathBuf};
 use std::process::{exit, Command, Stdio};
 use std::time::{Duration, Instant};
 
-/// What a run is asked for. `at_least` is how many calls, logs, keys alone, remote frames both in calls and in logs, cases of each reason for no value, and
-/// calls on models of bytes it has to have compared at its end; `emulator` are the words before a program, where the machine can't run one by itself.
+/// What a run is asked for. `at_least` is how many calls, logs, keys alone, remote frames both in calls and in logs, cases of each reason for no value, calls
+/// on models of bytes, and FD frames both in calls and in logs it has to have compared at its end; `emulator` are the words before a program, where the
+/// machine can't run one by itself.
 #[derive(Default)]
 struct Asked {
     seconds: Option<u64>,
@@ -17,11 +19,11 @@ struct Asked {
     every: usize,
     pack: Option<PathBuf>,
     seed: u64,
-    at_least: [u64; 6],
+    at_least: [u64; 7],
     emulator: Vec<String>,
 }
 
-const USAGE: &str = "usage: compare [--seconds N] [--cases N] [--logs N [--every N] [--pack FILE]] [--seed N] [--at-least CALLS LOGS KEYS REMOTE REASON MODELS] [--emulator WORDS]";
+const USAGE: &str = "usage: compare [--seconds N] [--cases N] [--logs N [--every N] [--pack FILE]] [--seed N] [--at-least CALLS LOGS KEYS REMOTE REASON MODELS FD] [--emulator WORDS]";
 
 fn asked(words: &[String]) -> Option<Asked> {
     let mut a = Asked { every: 1, seed: 1, ..Default::default() };
@@ -34,7 +36,7 @@ fn asked(words: &[String]) -> Option<Asked> {
             "--logs" => a.logs = Some(number()?),
             "--every" => a.every = number().filter(|n| *n > 0)? as usize,
             "--seed" => a.seed = number()?,
-            "--at-least" => a.at_least = [number()?, number()?, number()?, number()?, number()?, number()?],
+            "--at-least" => a.at_least = [number()?, number()?, number()?, number()?, number()?, number()?, number()?],
             "--pack" => a.pack = Some(PathBuf::from(words.next()?)),
             "--emulator" => a.emulator = words.next()?.split_whitespace().map(String::from).collect(),
             _ => return None,
@@ -78,11 +80,11 @@ fn answers_and_seen(script: &str) -> (String, models::Seen) {
     (out, both.seen())
 }
 
-/// What is printed for a log, and how many of its sound records are remote frames.
-fn log_of(log: &[u8]) -> (Vec<u8>, u64) {
+/// What is printed for a log, and how many of its sound records are remote and FD frames.
+fn log_of(log: &[u8]) -> (Vec<u8>, Counted) {
     let mut out = Vec::new();
-    let remote = framelog::run(log, &mut out);
-    (out, remote)
+    let counted = framelog::run(log, &mut out);
+    (out, counted)
 }
 
 /// The least part of the items, by halves and then one by one, for which the test still holds.
@@ -129,9 +131,22 @@ fn flags(fields: &[&str]) -> u64 {
     u64::from_str_radix(fields[2], 16).expect("a number")
 }
 
-/// Whether a call is a remote frame.
-fn is_remote(call: &str) -> bool {
-    call.starts_with("f ") && flags(&call.split(' ').collect::<Vec<_>>()) & 2 != 0
+/// Whether a call is a lent frame.
+fn is_lent(call: &str) -> bool {
+    call.starts_with("F ")
+}
+
+/// How many remote and FD frames a script has, lent or not. An FD frame is not remote, whatever its flag says.
+fn counted_of(script: &str) -> Counted {
+    let mut counted = Counted::default();
+    for call in script.lines().filter(|l| l.starts_with("f ") || is_lent(l)) {
+        match flags(&call.split(' ').collect::<Vec<_>>()) & 0b110 {
+            0b000 => {}
+            0b010 => counted.remote += 1,
+            _ => counted.fd += 1,
+        }
+    }
+    counted
 }
 
 /// How often each reason for no value was answered: the refusals 1, 16 and 17 by `extract_raw`, by `extract_signal_raw` and by `extract_signal`, and in frames'
@@ -171,13 +186,13 @@ impl Reasons {
     }
 }
 
-/// The key of a frame: its effective identifier and frame type.
+/// The key of a frame: its effective identifier and frame type. A classic and an FD frame share one, lent or not.
 fn key(call: &str) -> Option<(u64, bool)> {
     let fields: Vec<&str> = call.split(' ').collect();
     let id = u64::from_str_radix(fields.get(1)?, 16).ok()?;
     match fields[0] {
-        "f" if flags(&fields) & 1 != 0 => Some((id % (1 << 29), true)),
-        "f" => Some((id % (1 << 11), false)),
+        "f" | "F" if flags(&fields) & 1 != 0 => Some((id % (1 << 29), true)),
+        "f" | "F" => Some((id % (1 << 11), false)),
         "g" => Some((id, false)),
         _ => None,
     }
@@ -191,7 +206,7 @@ fn seen_of(k: (u64, bool), calls: &[&str], output: &str) -> Vec<String> {
     for call in calls {
         let answer = lines.next().unwrap_or("").to_string();
         match &call[..1] {
-            "f" | "g" => {
+            "f" | "F" | "g" => {
                 let outcomes = lines.next().unwrap_or("").to_string();
                 if key(call) == Some(k) {
                     seen.push(answer);
@@ -226,8 +241,9 @@ struct Bench {
     records: u64,
     logs: u64,
     isolated: u64,
-    remote_calls: u64,
-    remote_records: u64,
+    lent: u64,
+    in_calls: Counted,
+    in_logs: Counted,
     reasons: Reasons,
     models: models::Seen,
 }
@@ -235,7 +251,8 @@ struct Bench {
 impl Bench {
     fn script(&mut self, script: &str) {
         self.calls += script.lines().count() as u64;
-        self.remote_calls += script.lines().filter(|l| is_remote(l)).count() as u64;
+        self.lent += script.lines().filter(|l| is_lent(l)).count() as u64;
+        self.in_calls.add(counted_of(script));
         let (answers, seen) = answers_and_seen(script);
         self.reasons.add(&answers);
         self.models.add(seen);
@@ -255,8 +272,8 @@ impl Bench {
     fn log(&mut self, log: &[u8], records: u64) {
         self.logs += 1;
         self.records += records;
-        let (answer, remote) = log_of(log);
-        self.remote_records += remote;
+        let (answer, counted) = log_of(log);
+        self.in_logs.add(counted);
         if let Some(pack) = &mut self.pack {
             for part in [&(log.len() as u64).to_le_bytes()[..], &(answer.len() as u64).to_le_bytes()[..], log, &answer] {
                 pack.write_all(part).expect("the pack is written");
@@ -310,6 +327,8 @@ impl Bench {
         g::reasons(&mut out, &[0, 1, 2, 3, 4, 5, 6, 7, 8, 9, 15], 1);
         g::every_slice(&mut out, &mut g::Dice::new(2));
         self.script(&out);
+        self.fixed_fd();
+        self.fixed_lent();
         for log in g::flagged_logs() {
             self.log(&log, 2);
         }
@@ -318,6 +337,40 @@ impl Bench {
             self.log(&whole[..cut], 24);
         }
         self.fixed_models();
+    }
+
+    /// The cases of FD frames that are the same in every run: every length, and both types of one identifier alone.
+    fn fixed_fd(&mut self) {
+        let every: Vec<u64> = (0..256).collect();
+        let mut out = String::new();
+        g::payloads(&mut out, 'f', &every, &[64]);
+        g::far_signals(&mut out, 'f', &every, &[64]);
+        g::given_bytes(&mut out, 'f');
+        self.script(&out);
+        out.clear();
+        g::far_signals(&mut out, 'f', &g::FD_LENGTHS, &[64]);
+        self.isolation(&out);
+        for log in g::fd_logs() {
+            self.log(&log, 2);
+        }
+    }
+
+    /// The cases of lent frames that are the same in every run: every length, every number of bytes that a payload can have, and both types of one identifier
+    /// alone.
+    fn fixed_lent(&mut self) {
+        let every: Vec<u64> = (0..256).collect();
+        let payload: Vec<usize> = (0..=65).collect();
+        let mut out = String::new();
+        g::payloads(&mut out, 'F', &every, &[300]);
+        g::payloads(&mut out, 'F', &[0, 1, 7, 8, 9, 63, 64, 65, 255], &g::GIVEN);
+        g::payloads(&mut out, 'F', &[64], &payload);
+        g::far_signals(&mut out, 'F', &[8, 9, 12, 40, 41, 64, 255], &[0, 8, 9, 40, 41, 63, 64, 65, 300]);
+        g::given_bytes(&mut out, 'F');
+        g::lent_multiplexors(&mut out);
+        self.script(&out);
+        out.clear();
+        g::far_signals(&mut out, 'F', &[8, 64], &g::GIVEN);
+        self.isolation(&out);
     }
 
     /// The cases on models of bytes that are the same in every run: every size, and every border of one.
@@ -345,11 +398,11 @@ impl Bench {
         g::roots(&mut out, &mut d, 1_000);
         g::detectors(&mut out, &mut d, 20_000);
         g::lines(&mut out, &mut d, 2_000);
-        g::engines(&mut out, &mut d, 20_000, 12);
-        g::engines(&mut out, &mut d, 400, 1);
+        g::engines(&mut out, &mut d, 20_000, 12, g::Frames::Lent);
+        g::engines(&mut out, &mut d, 400, 1, g::Frames::Lent);
         self.script(&out);
         let mut one = String::new();
-        g::one_engine(&mut one, &mut d, 300, false);
+        g::one_engine(&mut one, &mut d, 300, false, g::Frames::Lent);
         self.isolation(&one);
         let long = g::log(&mut d, 5_000);
         self.log(&long, 5_000);
@@ -396,8 +449,8 @@ impl Bench {
             return;
         }
         println!(
-            "compared {} calls ({} remote frames), {} logs of {} records ({} remote frames), {} keys alone: no difference ({} s)",
-            self.calls, self.remote_calls, self.logs, self.records, self.remote_records, self.isolated, since.elapsed().as_secs()
+            "compared {} calls ({} remote frames, {} FD frames, {} lent frames), {} logs of {} records ({} remote frames, {} FD frames), {} keys alone: no difference ({} s)",
+            self.calls, self.in_calls.remote, self.in_calls.fd, self.lent, self.logs, self.records, self.in_logs.remote, self.in_logs.fd, self.isolated, since.elapsed().as_secs()
         );
         if self.calls > 0 {
             let [[a, b, _], [c, d, _], [e, f, g], [h, i, j]] = self.reasons.0;
@@ -420,7 +473,7 @@ fn main() {
     let scratch = std::env::temp_dir().join(format!("compare-{}", std::process::id()));
     let pack = asked.pack.map(|file| BufWriter::new(File::create(file).expect("the pack is made")));
     let program = |name| Program::new(&asked.emulator, &bin.join(name));
-    let mut b = Bench { replay: program("replay"), framelog: program("framelog"), scratch, pack, calls: 0, records: 0, logs: 0, isolated: 0, remote_calls: 0, remote_records: 0, reasons: Reasons::default(), models: models::Seen::default() };
+    let mut b = Bench { replay: program("replay"), framelog: program("framelog"), scratch, pack, calls: 0, records: 0, logs: 0, isolated: 0, lent: 0, in_calls: Counted::default(), in_logs: Counted::default(), reasons: Reasons::default(), models: models::Seen::default() };
     let since = Instant::now();
     let mut said = since;
     if let Some(n) = asked.logs {
@@ -452,14 +505,14 @@ fn main() {
     }
     println!("seeds {} to {}", asked.seed, seed.max(asked.seed + 1) - 1);
     let _ = std::fs::remove_file(&b.scratch);
-    let [calls, logs, keys, remote, reason, on_models] = asked.at_least;
-    let fewer = b.calls < calls || b.logs < logs || b.isolated < keys || b.remote_calls.min(b.remote_records) < remote;
-    if fewer || b.reasons.least() < reason || b.models.calls < on_models {
-        println!("FEWER than the {calls} calls, {logs} logs, {keys} keys alone, {remote} remote frames in calls and in logs, {reason} cases of each reason and {on_models} calls on models that were asked for");
+    let [calls, logs, keys, remote, reason, on_models, fd] = asked.at_least;
+    let fewer = b.calls < calls || b.logs < logs || b.isolated < keys || b.in_calls.remote.min(b.in_logs.remote) < remote;
+    if fewer || b.reasons.least() < reason || b.models.calls < on_models || b.in_calls.fd.min(b.in_logs.fd) < fd {
+        println!("FEWER than the {calls} calls, {logs} logs, {keys} keys alone, {remote} remote frames in calls and in logs, {reason} cases of each reason, {on_models} calls on models, and {fd} FD frames in calls and in logs that were asked for");
         exit(1);
     }
-    if b.calls > 0 && b.reasons.least().min(b.models.least()) == 0 {
-        println!("NOT SEEN: one of the reasons for no value, or one of the cases of models");
+    if b.calls > 0 && b.reasons.least().min(b.models.least()).min(b.lent) == 0 {
+        println!("NOT SEEN: one of the reasons for no value, one of the cases of models, or a lent frame");
         exit(1);
     }
 }

@@ -16,8 +16,8 @@ fn main() {
     g::every_refusal(&mut out, false);
     g::last_slots(&mut out, false);
     g::crowds(&mut out, &mut d);
-    g::engines(&mut out, &mut d, 500, 60);
-    g::one_engine(&mut out, &mut d, 30, true);
+    g::engines(&mut out, &mut d, 500, 60, g::Frames::Classic);
+    g::one_engine(&mut out, &mut d, 30, true, g::Frames::Classic);
     g::remotes(&mut out, &[0, 1, 2, 3, 4, 5, 6, 7, 8, 9, 10, 11, 12, 13, 14, 15, 255]);
     g::reasons(&mut out, &[8], 5);
     g::every_bin(&mut out, [7]);
@@ -28,5 +28,14 @@ fn main() {
     g::full_counters(&mut out, &[(7, 255)], &[]);
     g::ratios(&mut out, 11);
     g::models(&mut out, &mut g::Dice::new(4), 600);
+    g::payloads(&mut out, 'f', &[0, 8, 9, 12, 63, 64, 65, 255], &[64]);
+    g::far_signals(&mut out, 'f', &[0, 7, 8, 9, 12, 40, 41, 63, 64, 65, 255], &[64]);
+    g::given_bytes(&mut out, 'f');
+    g::engines(&mut out, &mut g::Dice::new(5), 300, 60, g::Frames::Mixed);
+    g::payloads(&mut out, 'F', &[64], &[0, 7, 9, 65]);
+    g::far_signals(&mut out, 'F', &[12, 64], &[8, 40, 41, 300]);
+    g::given_bytes(&mut out, 'F');
+    g::lent_multiplexors(&mut out);
+    g::one_engine(&mut out, &mut g::Dice::new(8), 60, false, g::Frames::Lent);
     print!("{out}");
 }

@@ -1,6 +1,7 @@
 -- `log::decode::frame` meets its contract.
 -- Assumes nothing.
 use mathlib.Core.Path.{sym, ap, _∙_}
+use mathlib.Core.Bool.{false}
 use Prim.Native.Nat.{ℕ, _%_}
 use native.Mathlib.Omega.{arith}
 use lib.Dec.{eqb}
@@ -30,7 +31,7 @@ u32-at-requires c κs = search needs
 returns-3 : tie.Need-returns-3
 returns-3 c =
     let s = now (c .before .before .before .before .before .before .args .s) in
-    ap (λ (i : ℕ). Front.frame i (eqb (getD s 2 0 % 2) 1) (flag 2 (getD s 2 0)) (getD s 3 0)) (c .u32-at .ensures)
+    ap (λ (i : ℕ). Front.frame (record { id = i; «is_extended» = eqb (getD s 2 0 % 2) 1; «is_remote» = flag 2 (getD s 2 0); «is_fd» = false; length = getD s 3 0 })) (c .u32-at .ensures)
     ∙ sym (defined-flags s (omega (arith, c .before .before .if1 .left)) (omega (arith, c .before .if2 .left)))
 
 pub frame-spec : {M : Type 1} → statement M

@@ -23,11 +23,15 @@ returns-4 c = simp (eq-eqb _ _ (c .before .before .before .before .if1 .taken), 
 
 returns-5 : tie.Need-returns-5
 unfolding markOf
-returns-5 c = simp (eq-eqb _ _ (c .before .before .before .before .if1 .taken), ne-eqb _ _ (c .before .before .before .if2 .left), ne-eqb _ _ (c .before .before .if3 .left), ne-eqb _ _ (c .before .if4 .left), ne-eqb _ _ (c .if5 .left))
+returns-5 c = simp (eq-eqb _ _ (c .before .before .before .before .before .if1 .taken), ne-eqb _ _ (c .before .before .before .before .if2 .left), ne-eqb _ _ (c .before .before .before .if3 .left), ne-eqb _ _ (c .before .before .if4 .left), ne-eqb _ _ (c .before .if5 .left), eq-eqb _ _ (c .if6 .taken))
 
 returns-6 : tie.Need-returns-6
 unfolding markOf
-returns-6 c = simp (ne-eqb _ _ (c .if1 .left))
+returns-6 c = simp (eq-eqb _ _ (c .before .before .before .before .before .if1 .taken), ne-eqb _ _ (c .before .before .before .before .if2 .left), ne-eqb _ _ (c .before .before .before .if3 .left), ne-eqb _ _ (c .before .before .if4 .left), ne-eqb _ _ (c .before .if5 .left), ne-eqb _ _ (c .if6 .left))
+
+returns-7 : tie.Need-returns-7
+unfolding markOf
+returns-7 c = simp (ne-eqb _ _ (c .if1 .left))
 
 pub mark-of-spec : {M : Type 1} → statement M
-mark-of-spec = tie.close (tie.spec returns returns-2 returns-3 returns-4 returns-5 returns-6)
+mark-of-spec = tie.close (tie.spec returns returns-2 returns-3 returns-4 returns-5 returns-6 returns-7)

@@ -34,6 +34,12 @@ frame-requires c κs = c .before .before .before .pre ∙ ap sizeOf (c .enum-tol
 enum-told-5 : tie.Need-enum-told-5
 enum-told-5 c = search needs
 
+fd-frame-requires : tie.Need-fd-frame-requires
+fd-frame-requires c κs = c .before .before .before .pre ∙ ap sizeOf (c .enum-told5 .given .1)
+
+enum-told-6 : tie.Need-enum-told-6
+enum-told-6 c = search needs
+
 returns : tie.Need-returns
 returns c = c .settings .ensures ∙ sym (ap (recordOf (now (c .before .before .before .before .args .s))) (c .before .enum-told .given .1))
 
@@ -47,7 +53,10 @@ returns-4 : tie.Need-returns-4
 returns-4 c = c .frame .ensures ∙ sym (ap (recordOf (now (c .before .before .before .before .args .s))) (c .before .enum-told4 .given .1))
 
 returns-5 : tie.Need-returns-5
-returns-5 c = search needs
+returns-5 c = c .fd-frame .ensures ∙ sym (ap (recordOf (now (c .before .before .before .before .args .s))) (c .before .enum-told5 .given .1))
+
+returns-6 : tie.Need-returns-6
+returns-6 c = search needs
 
 pub record-of-spec : {M : Type 1} → statement M
 record-of-spec =
@@ -62,8 +71,11 @@ record-of-spec =
     enum-told-4
     frame-requires
     enum-told-5
+    fd-frame-requires
+    enum-told-6
     returns
     returns-2
     returns-3
     returns-4
-    returns-5)
+    returns-5
+    returns-6)

@@ -1,6 +1,6 @@
 -- `log::advance` meets its contract: after each turn what was written, with what is to come, is what the definition says of all the bytes.
 -- Assumes nothing.
-use mathlib.Core.Path.{_∙_, sym}
+use mathlib.Core.Path.{refl, _∙_, sym}
 use Prim.Native.Nat.{ℕ, _-_}
 use native.Mathlib.Omega.{arith}
 use lib.ListN.{length}
@@ -10,7 +10,7 @@ use Rattle.table.specs.declared.SignalIdsEngine.{SignalIdsEngine}
 use Rattle.log.specs.declared.stream.Log.{Log}
 use Rattle.log.proofs.Below.{by-frame}
 use Rattle.log.proofs.Steps.{told}
-use Rattle.log.proofs.Runs.{Turned, first-turn, full, waits, stops, call-counts, call-used, call-more, call-less, call-last, frame-bytes, frame-used, frame-counts, frame-less, frame-room, frame-more}
+use Rattle.log.proofs.Runs.{Turned, first-turn, full, waits, stops, call-counts, call-used, call-more, call-less, call-last, frame-used, frame-counts, frame-less, frame-room, frame-more}
 use Rattle.log.proofs.stream.advance.Statement.{statement}
 use Rattle.log.proofs.stream.advance.Tie as tie
 
@@ -109,50 +109,57 @@ loop-again c =
     let here = c .before .before .before .before .before .before .before .before .before .before .before .before in
     call-more (here .before .before .before .loop .inv) (here .before .before .loop-test .taken) _ (here .item-at-front .ensures) _ (c .before .before .before .before .before .before .before .before .before .before .q .given .1) (c .before .before .before .before .before .before .before .on-request .ensures) (sym (c .before .before .goes-on .ensures) ∙ not-false _ (c .before .if1 .left))
 
-enum-known-id : tie.Need-enum-known-id Inv-loop μ-loop
-enum-known-id c = search needs
+enum-known-header : tie.Need-enum-known-header Inv-loop μ-loop
+enum-known-header c = search needs
 
-sub-frame-of : tie.Need-sub-frame-of Inv-loop μ-loop
-sub-frame-of c = omega arith
+add-at : tie.Need-add-at Inv-loop μ-loop
+add-at c =
+    let here = c .before .before .before in
+    omega (arith, frame-used (here .before .before .before .loop .inv) (here .before .before .loop-test .taken) _ (here .item-at-front .ensures) _ (c .before .header .given .1) _ refl, here .before .before .before .before .before .before .before .good .1 .0 .0)
 
-part-frame-of-start : tie.Need-part-frame-of-start Inv-loop μ-loop
-part-frame-of-start c = omega arith
+data-size-requires : tie.Need-data-size-requires Inv-loop μ-loop
+data-size-requires c κs = search needs
 
-part-frame-of-end : tie.Need-part-frame-of-end Inv-loop μ-loop
-part-frame-of-end c = omega arith
-
-frame-of-requires : tie.Need-frame-of-requires Inv-loop μ-loop
-frame-of-requires c κs =
+add-behind : tie.Need-add-behind Inv-loop μ-loop
+add-behind c =
     let here = c .before .before .before .before in
-    frame-bytes (here .before .before .before .loop .inv) (here .before .before .loop-test .taken) _ (here .item-at-front .ensures) _ _ _ _ (c .before .before .id .given .1)
+    omega (arith, frame-used (here .before .before .before .loop .inv) (here .before .before .loop-test .taken) _ (here .item-at-front .ensures) _ (c .before .before .header .given .1) _ (c .data-size .ensures), here .before .before .before .before .before .before .before .good .1 .0 .0)
 
-process-frame-requires : tie.Need-process-frame-requires Inv-loop μ-loop
-process-frame-requires c κs = search needs
+sub-process-lent-frame : tie.Need-sub-process-lent-frame Inv-loop μ-loop
+sub-process-lent-frame c = omega arith
+
+part-process-lent-frame-start : tie.Need-part-process-lent-frame-start Inv-loop μ-loop
+part-process-lent-frame-start c = omega arith
+
+part-process-lent-frame-end : tie.Need-part-process-lent-frame-end Inv-loop μ-loop
+part-process-lent-frame-end c =
+    let here = c .before .before .before .before in
+    omega (arith, frame-used (here .before .before .before .loop .inv) (here .before .before .loop-test .taken) _ (here .item-at-front .ensures) _ (c .before .before .header .given .1) _ (c .data-size .ensures))
+
+process-lent-frame-requires : tie.Need-process-lent-frame-requires Inv-loop μ-loop
+process-lent-frame-requires c κs = search needs
 
 add-count : tie.Need-add-count Inv-loop μ-loop
 add-count c =
     let here = c .before .before .before .before .before .before .before .before .before in
-    omega (arith, frame-counts (here .before .before .before .loop .inv) (here .before .before .loop-test .taken) _ (here .item-at-front .ensures) _ _ _ _ (c .before .before .before .before .before .before .before .id .given .1))
-
-add-used-2 : tie.Need-add-used-2 Inv-loop μ-loop
-add-used-2 c =
-    let here = c .before .before .before .before .before .before .before .before .before in
-    omega (arith, frame-used (here .before .before .before .loop .inv) (here .before .before .loop-test .taken) _ (here .item-at-front .ensures) _ _ _ _ (c .before .before .before .before .before .before .before .id .given .1), c .before .before .before .before .before .before .before .before .before .before .before .before .before .before .before .before .good .1 .0 .0)
+    omega (arith, frame-counts (here .before .before .before .loop .inv) (here .before .before .loop-test .taken) _ (here .item-at-front .ensures) _ (c .before .before .before .before .before .before .before .header .given .1) _ (c .before .before .before .before .before .data-size .ensures))
 
 put-anomalies-requires : tie.Need-put-anomalies-requires Inv-loop μ-loop
 put-anomalies-requires c κs =
     let here = c .before .before .before .before .before .before .before .before .before .before in
-    frame-room (here .before .before .before .loop .inv) (here .before .before .loop-test .taken) _ (here .item-at-front .ensures) _ _ _ _ (c .before .before .before .before .before .before .before .before .id .given .1) (c .before .before .before .before .before .frame-of .ensures) (c .before .before .before .before .process-frame .result) (by-frame (c .before .before .before .before .process-frame .result) _ _ (c .before .before .before .before .process-frame .ensures))
+    let done = c .before .before .before .before .process-lent-frame in
+    frame-room (here .before .before .before .loop .inv) (here .before .before .loop-test .taken) _ (here .item-at-front .ensures) _ (c .before .before .before .before .before .before .before .before .header .given .1) _ (c .before .before .before .before .before .before .data-size .ensures) (done .result) (by-frame (done .result) _ _ (done .ensures))
 
 loop-less-2 : tie.Need-loop-less-2 Inv-loop μ-loop
 loop-less-2 c =
     let here = c .before .before .before .before .before .before .before .before .before .before .before .before .before in
-    frame-less (here .before .before .before .loop .inv) (here .before .before .loop-test .taken) _ (here .item-at-front .ensures) _ _ _ _ (c .before .before .before .before .before .before .before .before .before .before .before .id .given .1)
+    frame-less (here .before .before .before .loop .inv) (here .before .before .loop-test .taken) _ (here .item-at-front .ensures) _ (c .before .before .before .before .before .before .before .before .before .before .before .header .given .1) _ (c .before .before .before .before .before .before .before .before .before .data-size .ensures)
 
 loop-again-2 : tie.Need-loop-again-2 Inv-loop μ-loop
 loop-again-2 c =
     let here = c .before .before .before .before .before .before .before .before .before .before .before .before .before in
-    frame-more (here .before .before .before .loop .inv) (here .before .before .loop-test .taken) _ (here .item-at-front .ensures) _ _ _ _ (c .before .before .before .before .before .before .before .before .before .before .before .id .given .1) (c .before .before .before .before .before .before .before .before .frame-of .ensures) (c .before .before .before .before .before .before .before .process-frame .result) (by-frame (c .before .before .before .before .before .before .before .process-frame .result) _ _ (c .before .before .before .before .before .before .before .process-frame .ensures)) (c .before .before .put-anomalies .ensures)
+    let done = c .before .before .before .before .before .before .before .process-lent-frame in
+    frame-more (here .before .before .before .loop .inv) (here .before .before .loop-test .taken) _ (here .item-at-front .ensures) _ (c .before .before .before .before .before .before .before .before .before .before .before .header .given .1) _ (c .before .before .before .before .before .before .before .before .before .data-size .ensures) (done .result) (by-frame (done .result) _ _ (done .ensures)) (c .before .before .put-anomalies .ensures)
 
 answer-requires-2 : tie.Need-answer-requires-2 Inv-loop μ-loop
 answer-requires-2 c κs = search needs
@@ -193,14 +200,15 @@ advance-spec =
     returns-3
     loop-less
     loop-again
-    enum-known-id
-    sub-frame-of
-    part-frame-of-start
-    part-frame-of-end
-    frame-of-requires
-    process-frame-requires
+    enum-known-header
+    add-at
+    data-size-requires
+    add-behind
+    sub-process-lent-frame
+    part-process-lent-frame-start
+    part-process-lent-frame-end
+    process-lent-frame-requires
     add-count
-    add-used-2
     put-anomalies-requires
     loop-less-2
     loop-again-2

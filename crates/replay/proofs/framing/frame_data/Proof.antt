@@ -1,15 +1,15 @@
--- `replay::framing::eight` is safe and ends.
+-- `replay::framing::frame_data` is safe and ends.
 -- Assumes nothing.
 use borrow.Author.Needs.{needs}
 use Prim.Native.Nat.{_≤_, _-_}
-use Rattle.replay.proofs.framing.eight.Statement.{statement}
-use Rattle.replay.proofs.framing.eight.Tie as tie
+use Rattle.replay.proofs.framing.frame_data.Statement.{statement}
+use Rattle.replay.proofs.framing.frame_data.Tie as tie
 
 abbrev Inv-loop : tie.InvT-loop
-Inv-loop «data» d₀ i₀ d i = i ≤ 8
+Inv-loop «data» d₀ i₀ d i = i ≤ 64
 
 abbrev μ-loop : tie.MeasureT-loop
-μ-loop «data» d₀ i₀ d i = 8 - i
+μ-loop «data» d₀ i₀ d i = 64 - i
 
 loop-holds : tie.Need-loop-holds Inv-loop μ-loop
 loop-holds c = search needs
@@ -35,8 +35,8 @@ loop-again c = search needs
 returns-2 : tie.Need-returns-2 Inv-loop μ-loop
 returns-2 c = search needs
 
-pub eight-spec : {M : Type 1} → statement M
-eight-spec =
+pub frame-data-spec : {M : Type 1} → statement M
+frame-data-spec =
     tie.close
     (tie.spec
     Inv-loop

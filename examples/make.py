@@ -1,5 +1,5 @@
 #!/usr/bin/env python3
-"""Writes the example logs beside this file: document01.log, larger.log, empty.log, remote_*.log, fd_*.log and damaged/*.log.
+"""Writes the example logs beside this file: document01.log, larger.log, empty.log, remote_*.log, fd_*.log, means_*.log and damaged/*.log.
 What framelog must print for each is the .out file of the same name."""
 import os
 import struct
@@ -11,6 +11,7 @@ EXTENDED, MOTOROLA, SIGNED, MULTIPLEXOR, CONDITION = 1, 2, 4, 8, 16
 REMOTE = 2
 # the lengths that an FD frame has in a log
 FD_LENGTHS = (0, 1, 2, 3, 4, 5, 6, 7, 8, 12, 16, 20, 24, 32, 48, 64)
+LARGEST = (2**24 - 1) * 2.0**104
 
 
 def settings(alpha=0.5, threshold=3.0):
@@ -257,6 +258,53 @@ def fd_between():
                 yield fd_frame(0x300, [0xFF] * 64, length=0, flags=flags)
 
 
+def means_warming():
+    """Two extreme samples in warm-up, of both types by turns. The mean that the Rust then has is infinite, and it flags every sample; here the mean stays, and
+    the count rises: the sixth sample is flagged, and one behind the freeze."""
+    yield settings(1.0, 3.0)
+    for flags in (0, EXTENDED):
+        # from -127 * 2^121 to 127 * 2^121 the difference is infinite
+        yield define(0x100, 0, 8, 2.0**121, 0.0, flags | SIGNED)
+        # from 1.5 * 2^104 to the largest f32 it is finite, and the sum is not
+        yield define(0x101, 0, 26, 2.0**103, 0.0, flags | SIGNED)
+    ends = [-127, 127, -5, -5, -5, -6] + [-5] * 12 + [-6] + [-5] * 3
+    near = [3, 2**25 - 2, 3, 3, 2**25 - 2, 4] + [3] * 12 + [4] + [3] * 3
+    for k in range(22):
+        for flags in (0, EXTENDED):
+            sign = -1 if flags else 1
+            yield frame(0x100, struct.pack("<b", sign * ends[k]), flags=flags)
+            yield frame(0x101, struct.pack("<i", sign * near[k]), flags=flags)
+
+
+def means_past():
+    """Past warm-up, with a variance so large that the largest f32 is not anomalous: it is folded and the sum is infinite, in a positive and in a negative signal.
+    The Rust then flags every sample; here the mean stays, three times, and nothing is flagged before the variance has become 0."""
+    yield settings(1.0, LARGEST)
+    yield define(0x200, 0, 64, (2**24 - 1) * 2.0**40)
+    yield define(0x200, 0, 64, (2**24 - 1) * -(2.0**40))
+    near, largest = 0x18000020000, 2**64 - 1
+    for raw in (0, 0, 0, 1, near, largest, largest, near + 2**40, 1, 2, 1, near, largest, 1, 2, near, near, largest, near, near):
+        yield frame(0x200, struct.pack("<Q", raw))
+
+
+def means_among():
+    """The mean of one signal of several goes bad in the Rust, in frames of which each third is an FD frame. The lines of the others are the same in either case."""
+    yield settings(0.5, 3.0)
+    yield define(0x300, 8, 16, 0.25)
+    yield define(0x300, 24, 8, 1.0, -40.0)
+    yield define(0x300, 0, 8, 2.0**121, 0.0, SIGNED)
+    yield define(0x300, 39, 8, 2.0**121, 0.0, MOTOROLA | SIGNED)
+    yield define(0x300, 480, 12)
+    for k in range(30):
+        spike = 1 if k in (9, 24) else 0
+        wide = {1: 127, 3: 127, 20: -100}.get(k, -127)
+        data = struct.pack("<bHBb", wide, 2000 + k % 3 + 500 * spike, 90 + k % 2, 60 - 9 * (k == 20))
+        if k % 3 == 2:
+            yield fd_frame(0x300, data.ljust(60, b"\0") + bytes([k // 3 % 2 + 100 * (k == 26)]), length=64)
+        else:
+            yield frame(0x300, data)
+
+
 GOOD = b"".join(document01())
 
 DAMAGED = {
@@ -339,7 +387,7 @@ def write(name, data):
 write("document01.log", GOOD)
 write("larger.log", b"".join(larger()))
 write("empty.log", b"")
-for made in (remote_lengths, remote_multiplexors, remote_between, fd_lengths, fd_signals, fd_multiplexors, fd_between):
+for made in (remote_lengths, remote_multiplexors, remote_between, fd_lengths, fd_signals, fd_multiplexors, fd_between, means_warming, means_past, means_among):
     write(f"{made.__name__}.log", b"".join(made()))
 os.makedirs(os.path.join(HERE, "damaged"), exist_ok=True)
 for name, data in DAMAGED.items():

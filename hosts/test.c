@@ -1,6 +1,7 @@
 /* A host in C: lends detectors to libhost.a and compares each answer, and every field after it, with the steps in the file that it is given.
- * A line of that file is a call's letter and four numbers, then kind or refusal, score and flag, then the nine fields of the detector;
- * all hexadecimal, floats by their bits. The oracle's program `steps` writes it from the original Rust. */
+ * A line of that file is a call's letter and nine numbers, then kind or refusal, score and flag, then the nine fields of the detector;
+ * all hexadecimal, floats by their bits. The letter p is no call: this host puts the nine numbers into its detector.
+ * The oracle's program `steps` writes the file from the original Rust, with the means that document 02 keeps. */
 #include "shedgrommet_detector.h"
 
 #include <inttypes.h>
@@ -8,7 +9,7 @@
 #include <stdio.h>
 #include <string.h>
 
-enum { ARGUMENTS = 4, ANSWERS = 3, FIELDS = 9, GUARD = 0x5AA5C33C };
+enum { ARGUMENTS = 9, ANSWERS = 3, FIELDS = 9, GUARD = 0x5AA5C33C };
 
 /* The detector that this host keeps, between two numbers that no call may change. */
 static struct {
@@ -38,6 +39,21 @@ static void made(MadeDetector m, uint32_t *answer)
     answer[0] = m.refusal;
 }
 
+static void place(const uint32_t *n)
+{
+    kept.detector = (EwmaDetector){
+        .mean = float_of(n[0]),
+        .variance = float_of(n[1]),
+        .alpha = float_of(n[2]),
+        .z_threshold = float_of(n[3]),
+        .count = n[4],
+        .frozen = n[5] != 0,
+        .freeze_remaining = n[6],
+        .freeze_duration = n[7],
+        .warmup_count = n[8],
+    };
+}
+
 static void step(char call, const uint32_t *n, uint32_t *answer)
 {
     SampleAnswer s;
@@ -53,6 +69,9 @@ static void step(char call, const uint32_t *n, uint32_t *answer)
         answer[0] = s.kind;
         answer[1] = bits_of(s.z_score);
         answer[2] = s.is_anomalous;
+        break;
+    case 'p':
+        place(n);
         break;
     case 'z':
         answer[0] = detector_set_freeze_duration(&kept.detector, n[0]);

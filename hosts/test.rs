@@ -1,5 +1,5 @@
-//! A host in Rust: lends detectors to libhost.a and compares each answer, and every field after it, with the original EwmaDetector.
-//! The calls are the detector's calls of the scripts that it is given, in the form of oracle/SCRIPTS.md, and of a generated one.
+//! A host in Rust: lends detectors to libhost.a and compares each answer, and every field after it, with the original EwmaDetector, whose means are kept as document
+//! 02 has it. The calls are the detector's calls of the scripts that it is given, in the form of oracle/SCRIPTS.md, and of a generated one.
 
 use answers::host::{bits, calls, generated, Call, Original, Step};
 use std::process::exit;
@@ -49,9 +49,18 @@ impl Lent {
         [m.refusal, 0, 0]
     }
 
-    fn step(&mut self, Call(letter, [a, b, c, d]): Call) -> Step {
+    /// A detector of any fields: this host may lend it too.
+    fn placed(&mut self, numbers: [u32; 9]) -> [u32; 3] {
+        let [mean, variance, alpha, z_threshold, count, frozen, freeze_remaining, freeze_duration, warmup_count] = numbers;
+        let [mean, variance, alpha, z_threshold] = [mean, variance, alpha, z_threshold].map(f32::from_bits);
+        self.0 = EwmaDetector { mean, variance, alpha, z_threshold, count, frozen: frozen != 0, freeze_remaining, freeze_duration, warmup_count };
+        [0; 3]
+    }
+
+    fn step(&mut self, Call(letter, numbers): Call) -> Step {
+        let [a, b, c, d, ..] = numbers;
         let (x, y) = (f32::from_bits(a), f32::from_bits(b));
-        // SAFETY: the reference is to a whole detector, aligned and exclusive, and its bool came from the library.
+        // SAFETY: the reference is to a whole detector, aligned and exclusive, and its bool came from the library or from here.
         let answer = unsafe {
             match letter {
                 'a' => self.made(detector_new(x, y)),
@@ -60,6 +69,7 @@ impl Lent {
                     let s = detector_update(&mut self.0, x);
                     [s.kind, bits(s.z_score), s.is_anomalous as u32]
                 }
+                'p' => self.placed(numbers),
                 'z' => [detector_set_freeze_duration(&mut self.0, a), 0, 0],
                 _ => {
                     detector_recalibrate(&mut self.0, x);
@@ -80,14 +90,14 @@ fn compare(script: &str) -> usize {
     let mut lent = Lent(unsafe { detector_new(0.0, 0.0) }.detector);
     for call in calls(script) {
         let Some(expected) = original.step(call) else { continue };
-        if "ao".contains(call.0) {
+        if "aop".contains(call.0) {
             since.clear();
         }
         since.push(call);
         let got = lent.step(call);
         if got != expected {
             for Call(letter, n) in &since {
-                eprintln!("{letter} {:X} {:X} {:X} {:X}", n[0], n[1], n[2], n[3]);
+                eprintln!("{letter} {}", n.map(|x| format!("{x:X}")).join(" "));
             }
             eprintln!("hosts: DIFFERENT at the last of these calls\nthe original: {expected:X?}\nthe library:  {got:X?}");
             exit(1);

@@ -46,10 +46,10 @@ pub fn of(work: impl FnOnce() -> u64) -> (f64, u64) {
     (now() - start, answer)
 }
 
-/// Nanoseconds of CPU time, user and system, that a program took from a file to nowhere.
-pub fn of_program(program: &Path, input: &Path) -> f64 {
+/// Nanoseconds of CPU time, user and system, that a program with its arguments took from a file to nowhere.
+pub fn of_program(words: &[String], input: &Path) -> f64 {
     let before = children();
-    let status = Command::new(program).stdin(File::open(input).expect("the log")).stdout(Stdio::null()).status();
+    let status = Command::new(&words[0]).args(&words[1..]).stdin(File::open(input).expect("the log")).stdout(Stdio::null()).status();
     assert!(status.expect("the program runs").success());
     children() - before
 }

@@ -137,20 +137,20 @@ fn tables(name: &str) -> Row {
     Row::new(name, 64 * TIMES, None, again(proved::frames), again(unchanged::frames))
 }
 
-/// The two log programs, and where logs are kept.
+/// The two log programs, each with its arguments, and where logs are kept.
 struct Programs {
-    ours: PathBuf,
-    rust: PathBuf,
+    ours: Vec<String>,
+    rust: Vec<String>,
     logs: PathBuf,
 }
 
 impl Programs {
     /// All that a program prints.
-    fn output(program: &Path, log: &Path) -> Vec<u8> {
+    fn output(words: &[String], log: &Path) -> Vec<u8> {
         let input = std::fs::File::open(log).expect("the log");
-        let run = Command::new(program).stdin(input).stderr(Stdio::inherit()).output();
+        let run = Command::new(&words[0]).args(&words[1..]).stdin(input).stderr(Stdio::inherit()).output();
         let run = run.expect("the program runs");
-        assert!(run.status.success(), "{} ended with {}", program.display(), run.status);
+        assert!(run.status.success(), "{} ended with {}", words.join(" "), run.status);
         run.stdout
     }
 
@@ -160,9 +160,9 @@ impl Programs {
         std::fs::write(&log, traffic.log()).expect("the log is written");
         let text = Programs::output(&self.ours, &log);
         assert!(text == Programs::output(&self.rust, &log), "{name}: the outputs differ");
-        let timed = |program: &PathBuf| -> Run {
-            let (program, log) = (program.clone(), log.clone());
-            Box::new(move || (clock::of_program(&program, &log), 0))
+        let timed = |words: &[String]| -> Run {
+            let (words, log) = (words.to_vec(), log.clone());
+            Box::new(move || (clock::of_program(&words, &log), 0))
         };
         Row::new(name, calls, aim, timed(&self.ours), timed(&self.rust))
     }
@@ -222,7 +222,9 @@ fn main() {
     let args: Vec<String> = std::env::args().collect();
     let rounds: usize = args[1].parse().expect("the number of rounds");
     assert!(rounds > 0, "at least one round");
-    let programs = Programs { ours: (&args[2]).into(), rust: (&args[3]).into(), logs: (&args[4]).into() };
+    // the Rust alone, without the means that document 02 keeps: no mean of these logs goes bad
+    let rust = vec![args[3].clone(), "--rust".to_string()];
+    let programs = Programs { ours: vec![args[2].clone()], rust, logs: (&args[4]).into() };
     let (mut calls, mut models, mut growth) = (calls(&programs), models::rows(), growth(&programs));
     // the first round only warms up
     for k in 0..=rounds {

@@ -10,7 +10,7 @@
  *
  * The library keeps no pointer, has no global state, allocates nothing and calls nothing outside itself.
  * So distinct detectors may be moved by distinct threads, and a detector may be copied, stored and read between calls.
- * All NaNs count as one: which NaN's bits stand in a field is not promised. A score is never a NaN. */
+ * All NaNs count as one: which NaN's bits stand in a field is not promised. A score is never a NaN, and a mean that is finite stays finite. */
 #ifndef SHEDGROMMET_DETECTOR_H
 #define SHEDGROMMET_DETECTOR_H
 
@@ -39,7 +39,7 @@ typedef struct {
 enum {
     SAMPLE_IGNORED = 0, /* not finite: it changed nothing, and has no score */
     SAMPLE_FIRST = 1,   /* the first sample: it set the mean, and has no score */
-    SAMPLE_WARMING = 2, /* within the warm-up: it was folded, and scores 0 */
+    SAMPLE_WARMING = 2, /* within the warm-up: it was folded where that leaves the mean finite, and scores 0 */
     SAMPLE_SCORED = 3   /* scored against the mean and variance before it */
 };
 
@@ -71,7 +71,8 @@ MadeDetector detector_new(float alpha, float z_threshold);
 MadeDetector detector_with_options(float alpha, float z_threshold, uint32_t freeze_duration, uint32_t warmup_count);
 
 /* One sample, any float: the detector becomes the one after it, and the answer says what the sample was.
- * A sample that is not finite leaves every field as it was. */
+ * A sample that is not finite leaves every field as it was. One that would make the mean infinite or a NaN is not folded: mean and variance stay,
+ * and the count rises. */
 SampleAnswer detector_update(EwmaDetector *detector, float value);
 
 /* Another freeze duration: 0 is answered; a freeze that runs stays as it is.

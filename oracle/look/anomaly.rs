@@ -1,5 +1,5 @@
 
-/// Appended by the oracle's build: reads what is private above, makes models of bytes of any fields, and changes nothing.
+/// Appended by the oracle's build: reads what is private above, makes detectors and models of bytes of any fields, and changes no code.
 pub mod look {
     use super::{EwmaDetector, HistogramDetector, MarkovDetector};
 
@@ -11,6 +11,13 @@ pub mod look {
     /// Count, freeze flag, places left, duration and warm-up.
     pub fn numbers(d: &EwmaDetector) -> [u32; 5] {
         [d.count, d.frozen as u32, d.freeze_remaining, d.freeze_duration, d.warmup_count]
+    }
+
+    /// A detector of these fields, in the order of the two above.
+    pub fn detector_of(floats: [f32; 4], numbers: [u32; 5]) -> EwmaDetector {
+        let [mean, variance, alpha, z_threshold] = floats;
+        let [count, frozen, freeze_remaining, freeze_duration, warmup_count] = numbers;
+        EwmaDetector { mean, variance, alpha, z_threshold, count, frozen: frozen != 0, freeze_remaining, freeze_duration, warmup_count }
     }
 
     /// The private square root.

@@ -1,7 +1,7 @@
--- A run of compiled calls on one detector, and that it is the run of the functions that their promises cite. Assumes nothing.
-use mathlib.Core.Path.{_≡_, refl, sym, ap, _∙_}
+-- A run of compiled calls on one detector, that it is the run of the functions that their promises cite, and what it keeps if each call does. Assumes nothing.
+use mathlib.Core.Path.{_≡_, refl, sym, ap, _∙_, subst}
 use mathlib.Core.List.{List, [], _∷_}
-use mathlib.Core.Bool.{Bool, true, false}
+use mathlib.Core.Bool.{Bool, true, false, cond}
 use Prim.Native.Nat.{ℕ}
 use lib.Dec.{eqb}
 use lib.Ieee.{Float}
@@ -13,8 +13,9 @@ use Rattle.detector.specs.declared.Reset.the-variants as reset
 use Rattle.detector.specs.declared.Updated.{Updated}
 use Rattle.detector.specs.declared.Verdict.{Verdict}
 use Rattle.detector.specs.declared.Verdict.the-variants.{Ignored, First, Warming, Scored}
-use Rattle.detector.specs.Answers.{Configured, resetMeans}
-use Rattle.detector.specs.Ewma.{Sampled, updatedMeans, updated, zero32, withStats, folded, settled, scoreOf, distance, resetOf}
+use Rattle.detector.specs.Answers.{Configured, configured, unconfigured, resetMeans}
+use Rattle.detector.specs.Ewma.{Sampled, updatedMeans, updated, zero32, withStats, folded, settled, scoreOf, distance, fresh, allowed, madeOf, resetOf}
+use Rattle.detector.specs.Ewma as ewma
 use Rattle.detector.specs.Calls.{Call, takes, resets, recalibrates, orAsItWas, after, ran}
 use Rattle.detector.proofs.Told.{chosen, other}
 use Rattle.detector.proofs.Samples.{Which, was-ignored, was-first, was-warming, was-past, which, not-finite-ignored, first-sample, warming-folded, past-scored, anomalous}
@@ -87,3 +88,38 @@ steps d (resets k) = go (eqb k 0) refl
 pub runs : (cs : List Call) (d : EwmaDetector) → Run d cs (ran d cs)
 runs [] d = ended d
 runs (c ∷ cs) d = then d (after d c) (ran d (c ∷ cs)) c cs (steps d c) (runs cs (after d c))
+
+-- ---- what every detector before its first sample has and every call keeps
+
+module _ (P : EwmaDetector → Type 0) where
+  -- what settings make, or the idle detector where they are refused
+  pub settings-have : ((alpha threshold : Float) (freeze warmup : ℕ) → P (fresh alpha threshold freeze warmup))
+      → (alpha threshold : Float) (freeze warmup : ℕ)
+      → P (orAsItWas ewma.idle (madeOf alpha threshold freeze warmup))
+  unfolding madeOf
+  settings-have new alpha threshold freeze warmup = go (allowed alpha threshold)
+    where
+      go : (b : Bool) → P (orAsItWas ewma.idle (cond b (configured (fresh alpha threshold freeze warmup)) (unconfigured 7)))
+      go true = new alpha threshold freeze warmup
+      go false = new zero32 zero32 0 0
+
+  pub step-keeps : ((d : EwmaDetector) (c : Call) → P d → P (after d c)) → {d e : EwmaDetector} {c : Call} → Step d e c → P d → P e
+  step-keeps keeps {d} {e} {c} step has = subst P (sym (step-is step)) (keeps d c has)
+
+  module _ (new : (alpha threshold : Float) (freeze warmup : ℕ) → P (fresh alpha threshold freeze warmup)) (keeps : (d : EwmaDetector) (c : Call) → P d → P (after d c)) where
+    configured-has : (alpha threshold : Float) (freeze warmup : ℕ) (d : EwmaDetector) → configured d ≡ madeOf alpha threshold freeze warmup → P d
+    configured-has alpha threshold freeze warmup d e =
+        subst (λ (c : Configured). P (orAsItWas ewma.idle c)) (sym e) (settings-have new alpha threshold freeze warmup)
+
+    made-has : {d : EwmaDetector} → MadeBy d → P d
+    made-has {d} (by-new κs alpha threshold s p) = configured-has alpha threshold 10 5 d p
+    made-has {d} (by-with-options κs alpha threshold freeze warmup s p) = configured-has alpha threshold freeze warmup d p
+    made-has (by-idle κs s p) = subst P (sym p) (new zero32 zero32 0 0)
+
+    -- every detector that calls made has
+    pub run-has : {d e : EwmaDetector} {cs : List Call} → MadeBy d → Run d cs e → P e
+    run-has made run = go run (made-has made)
+      where
+        go : {d e : EwmaDetector} {cs : List Call} → Run d cs e → P d → P e
+        go (ended d) has = has
+        go (then d e f c cs step rest) has = go rest (step-keeps keeps step has)

@@ -1,4 +1,5 @@
--- Document 01's sentences on a sample, "The detector", each a theorem over `updated`, for every detector and not only for those that calls make.
+-- Document 01's sentences on a sample, "The detector", and document 02's, T-06, on what a fold stores, each a theorem over `updated` or `folded`, for every
+-- detector and not only for those that calls make.
 -- Those that rest on the square root are in proofs/Root.antt. Assumes nothing.
 use mathlib.Core.Path.{_≡_, refl, sym, ap, _∙_, subst}
 use mathlib.Core.Logic.{_⊎_, inl, inr}
@@ -11,7 +12,8 @@ use lib.Ieee.{Float, lt}
 use lib.Ieee.Scale.{finite}
 use Rattle.detector.specs.declared.EwmaDetector.{EwmaDetector}
 use Rattle.detector.specs.Answers.{ignored, firstSample, warming, scored, scoredAs, configured, unconfigured}
-use Rattle.detector.specs.Ewma.{Sampled, zero32, distance, newMean, newVariance, folded, held, settled, scoreOf, updated, withFreeze, withDuration, withStats, resetOf, recalibrated}
+use Rattle.detector.specs.Ewma.{Sampled, zero32, distance, newMean, newVariance, keptVariance, oneMore, rustFolded, folded, held, settled, scoreOf, updated, withFreeze, withDuration, withStats, resetOf, recalibrated}
+use Rattle.detector.specs.Calls.{orAsItWas}
 use Rattle.detector.proofs.Told.{chosen, other, or-yes, or-next, and-no, and-other}
 use Rattle.detector.proofs.Floats.{below-zero}
 
@@ -173,7 +175,7 @@ held-alike d = ap (λ (n : ℕ). withFreeze (withDuration d 1) (not (eqb n 0)) n
 
 folded-alike : (d : EwmaDetector) (diff : Float) → atOne (folded (withDuration d 0) diff) ≡ folded (withDuration d 1) diff
 unfolding folded
-folded-alike d diff = refl
+folded-alike d diff = same-choice atOne (finite (newMean d diff)) refl refl
 
 settled-alike : (d : EwmaDetector) (diff : Float) (a : Bool) → atOne (settled (withDuration d 0) diff a) ≡ settled (withDuration d 1) diff a
 unfolding settled
@@ -192,17 +194,35 @@ zero-like-one d value =
 
 -- ---- what a fold stores
 
+-- T-06: "A new mean that isn't finite is not to be stored; mean and variance then stay, and the count still rises."
+pub bad-mean-not-stored : (d : EwmaDetector) (diff : Float) → finite (newMean d diff) ≡ false → folded d diff ≡ withStats d (d .mean) (d .variance) (oneMore (d .count))
+unfolding folded
+bad-mean-not-stored d diff f = other _ _ f
+
+-- and any other is, as in the Rust
+pub good-mean-stored : (d : EwmaDetector) (diff : Float) → finite (newMean d diff) ≡ true → folded d diff ≡ rustFolded d diff
+unfolding folded
+good-mean-stored d diff f = chosen _ _ f
+
+-- so what holds of both holds of a fold
+pub either-fold : (P : EwmaDetector → Type 0) (d : EwmaDetector) (diff : Float)
+    → P (rustFolded d diff)
+    → P (withStats d (d .mean) (d .variance) (oneMore (d .count)))
+    → P (folded d diff)
+either-fold P d diff stored left = go (finite (newMean d diff)) refl
+  where
+    go : (b : Bool) → finite (newMean d diff) ≡ b → P (folded d diff)
+    go true f = subst P (sym (good-mean-stored d diff f)) stored
+    go false f = subst P (sym (bad-mean-not-stored d diff f)) left
+
 -- "A new variance that isn't finite or is below 0 isn't stored."
 pub bad-variance-not-stored : (d : EwmaDetector) (diff : Float) → (finite (newVariance d diff) ≡ false) ⊎ (lt (newVariance d diff) zero32 ≡ true)
     → folded d diff .variance ≡ d .variance
-unfolding folded
-bad-variance-not-stored d diff (inl f) = other _ _ (and-no _ f)
-bad-variance-not-stored d diff (inr l) = other _ _ (and-other (finite (newVariance d diff)) (below-zero (newVariance d diff) l))
-
--- "The mean has no such guard."
-pub mean-not-guarded : (d : EwmaDetector) (diff : Float) → folded d diff .mean ≡ newMean d diff
-unfolding folded
-mean-not-guarded d diff = refl
+bad-variance-not-stored d diff bad = either-fold (λ e. e .variance ≡ d .variance) d diff (kept bad) refl
+  where
+    kept : (finite (newVariance d diff) ≡ false) ⊎ (lt (newVariance d diff) zero32 ≡ true) → keptVariance d (newVariance d diff) ≡ d .variance
+    kept (inl f) = other _ _ (and-no _ f)
+    kept (inr l) = other _ _ (and-other (finite (newVariance d diff)) (below-zero (newVariance d diff) l))
 
 -- ---- the other calls
 
@@ -217,15 +237,31 @@ pub recalibrated-not-finite : (d : EwmaDetector) (baseline : Float) → finite b
 unfolding recalibrated
 recalibrated-not-finite d baseline f = other _ _ f
 
+-- so what holds of both holds after `recalibrate`, and likewise after `set_freeze_duration`, a refusal included
+pub either-recalibrated : (P : EwmaDetector → Type 0) (d : EwmaDetector) (baseline : Float)
+    → (finite baseline ≡ true → P (withFreeze (withStats d baseline zero32 (d .count)) false 0))
+    → P d
+    → P (recalibrated d baseline)
+either-recalibrated P d baseline set left = go (finite baseline) refl
+  where
+    go : (b : Bool) → finite baseline ≡ b → P (recalibrated d baseline)
+    go true f = subst P (sym (recalibrated-finite d baseline f)) (set f)
+    go false f = subst P (sym (recalibrated-not-finite d baseline f)) left
+
+pub either-reset : (P : EwmaDetector → Type 0) (d : EwmaDetector) (duration : ℕ) → P (withDuration d duration) → P d → P (orAsItWas d (resetOf d duration))
+unfolding resetOf
+either-reset P d duration set left = go (eqb duration 0)
+  where
+    go : (b : Bool) → P (orAsItWas d (cond b (unconfigured 8) (configured (withDuration d duration))))
+    go true = left
+    go false = set
+
 -- "so on an empty detector the next sample overwrites it"
 pub recalibrated-empty-overwritten : (d : EwmaDetector) (baseline value : Float) → finite value ≡ true → d .count ≡ 0
     → updated (recalibrated d baseline) value .detector .mean ≡ value
 recalibrated-empty-overwritten d baseline value f none =
-    ap (λ (u : Sampled). u .detector .mean) (first-sample (recalibrated d baseline) value f (kept (finite baseline) refl ∙ none))
-  where
-    kept : (b : Bool) → finite baseline ≡ b → recalibrated d baseline .count ≡ d .count
-    kept true e = ap (λ (t : EwmaDetector). t .count) (recalibrated-finite d baseline e)
-    kept false e = ap (λ (t : EwmaDetector). t .count) (recalibrated-not-finite d baseline e)
+    ap (λ (u : Sampled). u .detector .mean)
+    (first-sample (recalibrated d baseline) value f (either-recalibrated (λ t. t .count ≡ 0) d baseline (λ _. none) none))
 
 -- "`set_freeze_duration` doesn't alter a running freeze."
 pub duration-keeps-freeze : (d e : EwmaDetector) (duration : ℕ) → resetOf d duration ≡ configured e

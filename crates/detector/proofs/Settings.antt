@@ -6,7 +6,6 @@ use Prim.Native.Nat.{ℕ}
 use native.Mathlib.Omega.{arith}
 use lib.Dec.{eqb}
 use lib.Ieee.{Float}
-use lib.Ieee.Scale.{finite}
 use contract.Lifetimes.{Lfts}
 use denote.Ref.{RefT, now}
 use Rattle.detector.specs.declared.EwmaDetector.{EwmaDetector}
@@ -14,8 +13,8 @@ use Rattle.detector.specs.declared.Reset.the-variants as reset
 use Rattle.detector.specs.declared.Updated.{Updated}
 use Rattle.detector.specs.declared.Verdict.{Verdict}
 use Rattle.detector.specs.Answers.{configured, unconfigured}
-use Rattle.detector.specs.Ewma.{Sampled, updated, folded, held, settled, distance, withDuration, resetOf, recalibrated}
-use Rattle.detector.proofs.Samples.{Which, was-ignored, was-first, was-warming, was-past, which, not-finite-ignored, first-sample, warming-folded, past-scored, anomalous, recalibrated-finite, recalibrated-not-finite}
+use Rattle.detector.specs.Ewma.{Sampled, updated, folded, held, settled, distance, withStats, withDuration, resetOf}
+use Rattle.detector.proofs.Samples.{Which, was-ignored, was-first, was-warming, was-past, which, not-finite-ignored, first-sample, warming-folded, past-scored, anomalous, either-fold, either-recalibrated}
 use Rattle.detector.proofs.InPlace as update-in-place
 use Rattle.detector.proofs.EwmaDetector.update.Reads as update
 use Rattle.detector.proofs.EwmaDetector.set_freeze_duration.Reads as set-freeze-duration
@@ -29,8 +28,10 @@ pub record SameSettings (d e : EwmaDetector) : Type 0 where
   pub warmup : e .«warmup_count» ≡ d .«warmup_count»
 
 folded-keeps : (d : EwmaDetector) (diff : Float) → SameSettings d (folded d diff)
-unfolding folded
-folded-keeps d diff = record { alpha = refl; threshold = refl; freeze = refl; warmup = refl }
+folded-keeps d diff = either-fold (SameSettings d) d diff same same
+  where
+    same : {m v : Float} {n : ℕ} → SameSettings d (withStats d m v n)
+    same = record { alpha = refl; threshold = refl; freeze = refl; warmup = refl }
 
 settled-keeps : (d : EwmaDetector) (diff : Float) (flag : Bool) → SameSettings d (settled d diff flag)
 unfolding settled held
@@ -61,11 +62,11 @@ pub update-in-place-keeps-settings : (κs : Lfts 1) (lent : RefT EwmaDetector) (
 update-in-place-keeps-settings κs lent x r s p = subst (SameSettings (now lent)) (sym (p .0)) (updated-keeps (now lent) x)
 
 pub recalibrate-keeps-settings : (κs : Lfts 0) (d : EwmaDetector) (x : Float) (e : EwmaDetector) (s : _) → recalibrate.Learnt κs (d, (x, tt)) e s → SameSettings d e
-recalibrate-keeps-settings κs d x e s p = subst (SameSettings d) (sym p) (go (finite x) refl)
-  where
-    go : (b : Bool) → finite x ≡ b → SameSettings d (recalibrated d x)
-    go true f = subst (SameSettings d) (sym (recalibrated-finite d x f)) (record { alpha = refl; threshold = refl; freeze = refl; warmup = refl })
-    go false f = subst (SameSettings d) (sym (recalibrated-not-finite d x f)) (record { alpha = refl; threshold = refl; freeze = refl; warmup = refl })
+recalibrate-keeps-settings κs d x e s p =
+    subst (SameSettings d) (sym p)
+    (either-recalibrated (SameSettings d) d x
+    (λ _. record { alpha = refl; threshold = refl; freeze = refl; warmup = refl })
+    (record { alpha = refl; threshold = refl; freeze = refl; warmup = refl }))
 
 -- the detector that `set_freeze_duration` answers is the one given, with the duration asked for and every other field as it was
 pub duration-alone-altered : (κs : Lfts 0) (d : EwmaDetector) (k : ℕ) (e : EwmaDetector) (s : _)

@@ -1,6 +1,7 @@
 -- Document 02, T-05: every old log prints what it printed, and a tool from before this request stops at A5 58 with 10 and shows nothing after it.
 -- First the rules from before, by document 01 and T-01, where they differ: A5 58 is no mark, and a frame has eight data bytes; what any other record says and
--- does is today's. Then the theorems: `as-before` for an input in which no record begins with A5 58, and `stopped-before` for any other.
+-- does is today's, and so is what a sample does to a detector, which T-06 has amended since. Then the theorems: `as-before` for an input in which no record
+-- begins with A5 58, and `stopped-before` for any other.
 -- Assumes nothing.
 use mathlib.Core.Path.{_≡_, refl, sym, _∙_, ap}
 use mathlib.Core.Bool.{Bool, true, false, cond, _&&_, true≢false}

@@ -8,4 +8,5 @@ pub mod Ends
 pub mod Example
 pub mod Remote
 pub mod Before
+pub mod Means
 pub mod Determined

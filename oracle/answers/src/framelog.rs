@@ -1,5 +1,7 @@
-//! The log of document 01, as amended by document 02, T-01 and T-05, over the unchanged Rust.
+//! The log of document 01, as amended by document 02, T-01 and T-05, over the unchanged Rust; its means are kept by T-06 (amended.rs), or go bad where the Rust is
+//! asked for alone.
 
+use crate::amended::Means;
 use crate::{float, refusal};
 use std::io::{Read, Write};
 use vs_can_monitor::CanFrame;
@@ -11,18 +13,20 @@ enum Next {
     Stop(u32),
 }
 
-/// How many remote frames and how many FD frames there were.
+/// How many remote frames and how many FD frames there were, and how many means were kept in frames.
 #[derive(Clone, Copy, Default)]
 pub struct Counted {
     pub remote: u64,
     pub fd: u64,
+    pub means: u64,
 }
 
 impl Counted {
-    /// Both kinds of some more frames.
+    /// Those of some more frames.
     pub fn add(&mut self, more: Counted) {
         self.remote += more.remote;
         self.fd += more.fd;
+        self.means += more.means;
     }
 }
 
@@ -32,6 +36,7 @@ struct Log<R: Read, W: Write> {
     engine: Option<Box<SignalIdsEngine>>,
     sound: u32,
     counted: Counted,
+    means: Means,
 }
 
 fn u16_at(b: &[u8], i: usize) -> u16 {
@@ -149,7 +154,8 @@ impl<R: Read, W: Write> Log<R, W> {
     }
 
     fn process(&mut self, frame: &CanFrame) -> Next {
-        let result = self.engine.as_mut().expect("settings came first").process_frame(frame);
+        let engine = self.engine.as_mut().expect("settings came first");
+        let result = self.means.frame(engine, |e| e.process_frame(frame));
         for a in &result.anomalies[..result.anomaly_count as usize] {
             anomaly_line(&mut self.out, self.sound + 1, a.signal_index, a.z_score, a.physical_value);
         }
@@ -206,9 +212,9 @@ impl<R: Read, W: Write> Log<R, W> {
     }
 }
 
-/// Prints all that the log program prints for an input, and answers how many remote and FD frames were among its sound records.
-pub fn run(input: impl Read, out: impl Write) -> Counted {
-    let mut log = Log { input, out, engine: None, sound: 0, counted: Counted::default() };
+/// Prints all that the log program prints for an input, and answers how many remote and FD frames were among its sound records, and how many means they kept.
+pub fn run(input: impl Read, out: impl Write, means: Means) -> Counted {
+    let mut log = Log { input, out, engine: None, sound: 0, counted: Counted::default(), means };
     log.run();
-    log.counted
+    Counted { means: log.means.kept, ..log.counted }
 }

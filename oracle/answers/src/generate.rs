@@ -195,12 +195,14 @@ pub fn roots(out: &mut String, d: &mut Dice, calls: usize) {
     }
 }
 
-/// Which frames a script has: classic ones, FD frames too, or lent frames as well. But for the first, half of the signals may stand in any of 64 bytes.
-#[derive(Clone, Copy, PartialEq)]
+/// Which frames a script has: classic ones, FD frames too, or lent frames as well. But for the first, half of the signals may stand in any of 64 bytes. The last
+/// has all of these, two thirds of its signals have values over the whole range of f32, and it has few identifiers.
+#[derive(Clone, Copy, PartialEq, PartialOrd)]
 pub enum Frames {
     Classic,
     Mixed,
     Lent,
+    Full,
 }
 
 /// The lengths that a log has of FD frames.
@@ -218,7 +220,53 @@ fn far_start(d: &mut Dice, length: u64) -> u64 {
     }
 }
 
+/// Length, sign and scale of signals whose values go up to the largest f32, or near it; the numbers that would be above it have no value.
+const FULL_RANGE: [(u64, u64, u64); 7] = [
+    (64, 0, 0x5F7F_FFFF), (64, 0, 0xDF7F_FFFF), (64, 1, 0x6000_0000), (32, 1, 0x7000_0000), (26, 1, 0x7300_0000), (16, 1, 0x7800_0000), (8, 1, 0x7C00_0000),
+];
+
+/// Numbers of eight bytes at which such signals are 0, small, 1.5 * 2^104 or the largest that there is, of either sign.
+const FULL_NUMBERS: [u64; 10] = [
+    0, 1, 0x180_0002_0000, u64::MAX, 3, 0x1FF_FFFE, 3u64.wrapping_neg(), 0x1FF_FFFEu64.wrapping_neg(), 0x7FFF_FF80_7FFF_7F7F, 0x8000_0080_8000_8081,
+];
+
+/// A definition whose values span the range of f32.
+fn full_definition(d: &mut Dice, ids: &[u64]) -> String {
+    let (length, signed, scale) = FULL_RANGE[d.below(7) as usize];
+    let start = if d.one_in(3) { 64 * d.below(8) } else { 8 * d.below(9 - length.div_ceil(8)) };
+    let condition = if d.one_in(12) { 0x10000 + d.below(2) } else { 0 };
+    let (id, extended, name) = (d.of(ids), d.below(2), d.next() >> 32);
+    format!("{id:X} {extended:X} {start:X} {length:X} 0 {scale:X} 0 {name:X} {signed:X} 0 {condition:X}")
+}
+
+/// Bytes for such definitions: whole numbers in eights, or single bytes at their ends.
+fn full_bytes(d: &mut Dice, n: usize) -> Vec<u8> {
+    let numbers = d.of(&[0, 4, 10]);
+    let mut data = Vec::new();
+    while data.len() < n {
+        if numbers > 0 {
+            data.extend(FULL_NUMBERS[d.below(numbers) as usize].to_le_bytes());
+        } else {
+            data.push(d.of(&[0, 0x7F, 0x7F, 0x7F, 0x80, 0x81, 0x81, 0x81, 0xFF]) as u8);
+        }
+    }
+    data.truncate(n);
+    data
+}
+
+/// Payloads of frames that follow one another: one of such bytes, or at times several with which the mean of a signal of 64 bits goes bad past warm-up.
+fn full_payloads(d: &mut Dice) -> Vec<Vec<u8>> {
+    let size = d.of(&[8, 8, 64]) as usize;
+    if !d.one_in(12) {
+        return vec![full_bytes(d, size)];
+    }
+    [0, 1, 0, 1, 0, 1, 2, 3, 3].iter().map(|i: &usize| FULL_NUMBERS[*i].to_le_bytes().repeat(size / 8)).collect()
+}
+
 fn definition(d: &mut Dice, ids: &[u64], wild: bool, frames: Frames) -> String {
+    if frames == Frames::Full && !d.one_in(3) {
+        return full_definition(d, ids);
+    }
     let extended = d.below(2);
     let (start, mut length, _, _) = place(d);
     let id = if wild && d.one_in(8) {
@@ -325,6 +373,75 @@ pub fn detectors(out: &mut String, d: &mut Dice, calls: usize) {
     }
 }
 
+/// Samples at the ends of f32; numbers from which alpha 1 comes to the largest by a finite difference and an infinite sum; and numbers whose square is just finite.
+const WIDE: [u64; 18] = [
+    0x7F7F_FFFF, 0x7F7F_FFFF, 0xFF7F_FFFF, 0xFF7F_FFFF, 0x7F7F_FFFE, 0xFF7F_FFFE, 0x7F00_0000, 0xFF00_0000, 0x73C0_0000, 0xF3C0_0000, 0x7460_0000, 0xF460_0000,
+    0x5F7F_FFFF, 0xDF7F_FFFF, 0, 0, 0x8000_0000, 0x3F80_0000,
+];
+
+/// Long sequences of samples over the whole range of f32, of both signs or of one, at settings with which a mean goes bad in the Rust, in warm-up and past it.
+pub fn wide_samples(out: &mut String, d: &mut Dice, calls: usize) {
+    let mut left = calls as i64;
+    while left > 0 {
+        let alpha = d.of(&[0x3F80_0000, 0x3F80_0000, 0x3F80_0000, 0x3F7F_FFFF, 0x3F00_0000, 0x3DCC_CCCD, 1]);
+        let threshold = d.of(&[0x7F7F_FFFF, 0x7F7F_FFFF, 0x7F7F_FFFF, 0x4040_0000, 0]);
+        let _ = if d.one_in(4) {
+            writeln!(out, "a {alpha:X} {threshold:X}")
+        } else {
+            writeln!(out, "o {alpha:X} {threshold:X} {:X} {:X}", d.of(&[0, 1, 3, 10]), d.of(&[0, 1, 2, 3, 5, 20, 0xFFFF_FFFF]))
+        };
+        let steps = 1 + d.below(40);
+        let (cleared, set) = [(0, 0), (1 << 31, 0), (0, 1 << 31)][d.below(3) as usize];
+        let wide = |d: &mut Dice| d.of(&WIDE) & !cleared | set;
+        if d.one_in(2) {
+            let _ = writeln!(out, "u 0\nt {:X}", 0x5F7F_FFFF | set);
+        }
+        for _ in 0..steps {
+            let _ = match d.below(30) {
+                0 => writeln!(out, "z {:X}", d.below(4)),
+                1 => writeln!(out, "c {:X}", wide(d)),
+                2 => writeln!(out, "k"),
+                3 => writeln!(out, "u {:X}", any_float(d)),
+                4..=6 => writeln!(out, "t 0\nu {:X}\nt {:X}", 0x73C0_0000 | set, 0x7F7F_FFFF | set),
+                other => writeln!(out, "{} {:X}", if other % 2 == 0 { "u" } else { "t" }, wide(d)),
+            };
+        }
+        left -= steps as i64;
+    }
+}
+
+/// Detectors of any fields, such as a host may lend, each placed by its nine fields and then given some samples: every kind of alpha, threshold, mean and variance,
+/// and counts next to the warm-up and to the last that there is.
+pub fn lent_detectors(out: &mut String, d: &mut Dice, detectors: usize) {
+    for _ in 0..detectors {
+        let mean = if d.one_in(2) { d.of(&WIDE) } else { any_float(d) };
+        let variance = if d.one_in(2) { d.of(&[0, 0, 0x3F80_0000, 0x7F7F_FFFF, 0x7E80_0000]) } else { any_float(d) };
+        let alpha = match d.below(4) {
+            0 => d.of(&[0x3F80_0000, 0x3F80_0000, 0x3F00_0000, 0x3DCC_CCCD]),
+            1 => d.of(&[0, 0x8000_0000, 0xBF80_0000, 0x4000_0000, 0x7F7F_FFFF, 0xFF7F_FFFF]),
+            2 => d.of(&[0x7F80_0000, 0xFF80_0000, 0x7FC0_0000]),
+            _ => any_float(d),
+        };
+        let threshold = if d.one_in(2) { d.of(&[0x7F7F_FFFF, 0x7F80_0000, 0x7FC0_0000, 0x4040_0000]) } else { any_float(d) };
+        let warmup = d.of(&[0, 1, 2, 5, 20, 0xFFFF_FFFF]);
+        let count = match d.below(4) {
+            0 => d.of(&[0, 1, 0xFFFF_FFFD, 0xFFFF_FFFE, 0xFFFF_FFFF]),
+            1 => d.next() >> 32,
+            _ => warmup.saturating_sub(2) + d.below(4),
+        } & 0xFFFF_FFFF;
+        let (frozen, remaining, duration) = (d.one_in(4) as u64, d.of(&[0, 1, 2, 10, 0xFFFF_FFFF]), d.of(&[0, 1, 2, 10, 0xFFFF_FFFF]));
+        let _ = writeln!(out, "p {mean:X} {variance:X} {alpha:X} {threshold:X} {count:X} {frozen:X} {remaining:X} {duration:X} {warmup:X}");
+        for _ in 0..1 + d.below(5) {
+            let _ = match d.below(16) {
+                0 => writeln!(out, "z {:X}", d.below(3)),
+                1 => writeln!(out, "c {:X}", any_float(d)),
+                2..=8 => writeln!(out, "u {:X}", d.of(&WIDE)),
+                _ => writeln!(out, "u {:X}", any_float(d)),
+            };
+        }
+    }
+}
+
 /// Lines of the log, of every kind and with every number of digits, into buffers of every size up to some past a line's.
 pub fn lines(out: &mut String, d: &mut Dice, calls: usize) {
     let mut line = |d: &mut Dice, size: usize| {
@@ -349,15 +466,15 @@ pub fn lines(out: &mut String, d: &mut Dice, calls: usize) {
     }
 }
 
-fn ids(d: &mut Dice) -> Vec<u64> {
-    let n = 1 + d.below(12);
+fn ids(d: &mut Dice, frames: Frames) -> Vec<u64> {
+    let n = 1 + d.below(if frames == Frames::Full { 3 } else { 12 });
     (0..n).map(|_| if d.one_in(4) { d.of(&[0, 1, 0x7FF, 0x100]) } else { d.below(0x800) }).collect()
 }
 
 /// Table calls and frames on one engine that is there; the table is shown after each call, or at the end alone.
 pub fn one_engine(out: &mut String, d: &mut Dice, calls: usize, often: bool, frames: Frames) {
-    out.push_str("e 3F000000 40000000\n");
-    let ids = ids(d);
+    out.push_str(if frames == Frames::Full { "e 3F800000 7F7FFFFF\n" } else { "e 3F000000 40000000\n" });
+    let ids = ids(d, frames);
     for i in 0..calls {
         if i < 12 || d.one_in(12) {
             table_call(out, d, &ids, false, frames);
@@ -375,9 +492,15 @@ pub fn one_engine(out: &mut String, d: &mut Dice, calls: usize, often: bool, fra
 pub fn engines(out: &mut String, d: &mut Dice, calls: usize, shows: u64, frames: Frames) {
     let mut left = calls as i64;
     while left > 0 {
-        let (alpha, threshold) = if d.one_in(20) { (any_float(d), any_float(d)) } else { (d.of(&[0x3F00_0000, 0x3DCC_CCCD, 0x3F80_0000]), d.of(&[0x4040_0000, 0, 0x3F80_0000])) };
+        let (alpha, threshold) = if frames == Frames::Full && d.one_in(2) {
+            (0x3F80_0000, d.of(&[0x7F7F_FFFF, 0x7F7F_FFFF, 0x4040_0000]))
+        } else if d.one_in(20) {
+            (any_float(d), any_float(d))
+        } else {
+            (d.of(&[0x3F00_0000, 0x3DCC_CCCD, 0x3F80_0000]), d.of(&[0x4040_0000, 0, 0x3F80_0000]))
+        };
         let _ = writeln!(out, "e {alpha:X} {threshold:X}");
-        let ids = ids(d);
+        let ids = ids(d, frames);
         if d.one_in(6) {
             let _ = writeln!(out, "y {:X}", d.of(&[1, 3, 63, 64, 200]));
         }
@@ -423,7 +546,10 @@ fn table_call(out: &mut String, d: &mut Dice, ids: &[u64], wild: bool, frames: F
 
 fn frame(out: &mut String, d: &mut Dice, ids: &[u64], frames: Frames) {
     let id = if d.one_in(8) { d.of(&[0x900, 0x7FF, 0, 0xFFFF_FFFF]) } else { d.of(ids) };
-    if frames == Frames::Lent && d.one_in(3) {
+    if frames == Frames::Full && !d.one_in(3) {
+        return full_frames(out, d, id);
+    }
+    if frames >= Frames::Lent && d.one_in(3) {
         return lent_frame(out, d, id);
     }
     if frames != Frames::Classic && d.one_in(3) {
@@ -503,6 +629,19 @@ fn lent_frame(out: &mut String, d: &mut Dice, id: u64) {
     };
     let data = small_bytes(d, lent);
     let _ = writeln!(out, "F {id:X} {} {length:X} {}", fd + frame_flags(d), hex(&data));
+}
+
+/// A frame or several of one key, for signals over the whole range of f32: classic, FD, lent or raw.
+fn full_frames(out: &mut String, d: &mut Dice, id: u64) {
+    let (extended, call) = (d.below(2), d.of(&[0, 1, 2, 2]));
+    for data in full_payloads(d) {
+        let (flags, size, data) = (extended + if data.len() > 8 { 4 } else { 0 }, data.len(), hex(&data));
+        let _ = match call {
+            0 => writeln!(out, "g {id:X} {size:X} {data}"),
+            1 => writeln!(out, "F {id:X} {flags} {size:X} {data}"),
+            _ => writeln!(out, "f {id:X} {flags} {size:X} {data}"),
+        };
+    }
 }
 
 /// The flags of a frame: extended half the time, and remote once in eight.
@@ -1046,8 +1185,8 @@ pub fn models(out: &mut String, d: &mut Dice, calls: usize) {
     }
 }
 
-fn push_definition(log: &mut Vec<u8>, d: &mut Dice, ids: &[u64], wild: bool) {
-    let text = definition(d, ids, wild, Frames::Mixed);
+/// The record of a definition that is written as in a script.
+pub fn push_definition(log: &mut Vec<u8>, text: &str) {
     let f: Vec<u64> = text.split(' ').map(|x| u64::from_str_radix(x, 16).expect("a number")).collect();
     let flags = f[1] | f[4] << 1 | f[8] << 2 | f[9] << 3 | ((f[10] != 0) as u64) << 4;
     log.extend([0xA5, 0x44]);
@@ -1059,6 +1198,13 @@ fn push_definition(log: &mut Vec<u8>, d: &mut Dice, ids: &[u64], wild: bool) {
         log.extend((x as u32).to_le_bytes());
     }
     log.extend((f[10] as u16).to_le_bytes());
+}
+
+/// The record of a frame without flags but the first, classic where it has eight bytes, and else FD.
+pub fn push_full_frame(log: &mut Vec<u8>, id: u64, extended: u64, data: &[u8]) {
+    log.extend([0xA5, if data.len() == 8 { 0x46 } else { 0x58 }, extended as u8, data.len() as u8]);
+    log.extend((id as u32).to_le_bytes());
+    log.extend(data);
 }
 
 fn push_frame(log: &mut Vec<u8>, d: &mut Dice, ids: &[u64]) {
@@ -1076,13 +1222,15 @@ fn push_frame(log: &mut Vec<u8>, d: &mut Dice, ids: &[u64]) {
     }
 }
 
-/// A sound log of some records: settings, then definitions, removals, and frames of which a third are FD frames.
-pub fn log(d: &mut Dice, records: usize) -> Vec<u8> {
+/// A sound log of some records or a few more: settings, then definitions, removals, and frames of which a third are FD frames. In a full one two thirds of the
+/// definitions have values over the whole range of f32, and two thirds of the frames are for them.
+pub fn log(d: &mut Dice, records: usize, full: bool) -> Vec<u8> {
     let mut log = vec![0xA5, 0x50];
-    log.extend((d.of(&[0x3F00_0000, 0x3DCC_CCCD, 0x3F80_0000]) as u32).to_le_bytes());
-    log.extend((d.of(&[0x4040_0000, 0x3F80_0000, 0x4000_0000]) as u32).to_le_bytes());
-    let ids = ids(d);
-    let table = d.of(&[2, 8, 40, 200]);
+    log.extend((d.of(if full { &[0x3F00_0000, 0x3F80_0000, 0x3F80_0000] } else { &[0x3F00_0000, 0x3DCC_CCCD, 0x3F80_0000] }) as u32).to_le_bytes());
+    log.extend((d.of(if full { &[0x4040_0000, 0x7F7F_FFFF, 0x7F7F_FFFF] } else { &[0x4040_0000, 0x3F80_0000, 0x4000_0000] }) as u32).to_le_bytes());
+    let frames = if full { Frames::Full } else { Frames::Mixed };
+    let ids = ids(d, frames);
+    let table = d.of(if full { &[2, 4, 8] } else { &[2, 8, 40, 200] });
     let wild = d.one_in(2);
     for i in 1..records {
         if i < 20 || d.one_in(table) {
@@ -1090,7 +1238,12 @@ pub fn log(d: &mut Dice, records: usize) -> Vec<u8> {
                 log.extend([0xA5, 0x52]);
                 log.extend((d.below(40) as u16).to_le_bytes());
             } else {
-                push_definition(&mut log, d, &ids, wild);
+                push_definition(&mut log, &definition(d, &ids, wild, frames));
+            }
+        } else if full && !d.one_in(3) {
+            let (id, extended) = (d.of(&ids), d.below(2));
+            for data in full_payloads(d) {
+                push_full_frame(&mut log, id, extended, &data);
             }
         } else {
             push_frame(&mut log, d, &ids);

@@ -1,11 +1,14 @@
-//! The original detector as a host would lend it: the detector's calls of a script, and after each the answer and every field.
+//! The original detector as a host would lend it: the detector's calls of a script, and after each the answer and every field. Means are kept by document 02's
+//! rule (amended.rs).
 
-use crate::generate::{detectors, every_setting, Dice};
+use crate::amended::Means;
+use crate::bad_means;
+use crate::generate::{detectors, every_setting, lent_detectors, wide_samples, Dice};
 use vs_anomaly::{look, EwmaDetector};
 
-/// A call's letter and its four numbers, 0 where it has fewer.
+/// A call's letter and its nine numbers, 0 where it has fewer. The letter p places the nine fields of a detector: a host may lend any.
 #[derive(Clone, Copy)]
-pub struct Call(pub char, pub [u32; 4]);
+pub struct Call(pub char, pub [u32; 9]);
 
 /// Kind or refusal, score and flag, 0 where there is none; then the nine fields of the detector. Floats are bits, all NaNs as one.
 pub type Step = ([u32; 3], [u32; 9]);
@@ -28,8 +31,8 @@ pub fn calls(script: &str) -> Vec<Call> {
             "t" => "u",
             other => other,
         };
-        if ["a", "o", "u", "z", "c"].contains(&letter) {
-            let mut numbers = [0; 4];
+        if ["a", "o", "u", "z", "c", "p"].contains(&letter) {
+            let mut numbers = [0; 9];
             for (n, word) in numbers.iter_mut().zip(words) {
                 *n = u32::from_str_radix(word, 16).expect("a hexadecimal number");
             }
@@ -44,17 +47,23 @@ pub fn generated() -> String {
     let mut script = String::new();
     every_setting(&mut script, 1);
     detectors(&mut script, &mut Dice::new(1), 200_000);
+    script.extend(bad_means::detectors());
+    wide_samples(&mut script, &mut Dice::new(2), 50_000);
+    lent_detectors(&mut script, &mut Dice::new(3), 20_000);
     script
 }
 
-/// The original, which has no detector after a refusal: calls on it are then left out.
+/// The original, which has no detector after a refusal: calls on it are then left out. And the means that were kept.
 #[derive(Default)]
-pub struct Original(Option<EwmaDetector>);
+pub struct Original {
+    detector: Option<EwmaDetector>,
+    pub means: Means,
+}
 
 impl Original {
     fn fields(&self) -> [u32; 9] {
         let mut all = [0; 9];
-        if let Some(d) = &self.0 {
+        if let Some(d) = &self.detector {
             for (to, x) in all.iter_mut().zip(look::floats(d)) {
                 *to = bits(x);
             }
@@ -64,12 +73,12 @@ impl Original {
     }
 
     fn made(&mut self, d: Option<EwmaDetector>) -> [u32; 3] {
-        self.0 = d;
+        self.detector = d;
         [if d.is_some() { 0 } else { 7 }, 0, 0]
     }
 
     /// The Rust answers a score or none; which of document 01's four cases it was follows from the detector before.
-    fn update(d: &mut EwmaDetector, value: f32) -> [u32; 3] {
+    fn update(d: &mut EwmaDetector, means: &mut Means, value: f32) -> [u32; 3] {
         let [count, _, _, _, warmup] = look::numbers(d);
         let kind = match count {
             _ if !value.is_finite() => 0,
@@ -77,20 +86,22 @@ impl Original {
             n if n < warmup => 2,
             _ => 3,
         };
-        match d.update(value) {
+        match means.update(d, value) {
             Some(s) => [kind, bits(s.z_score), s.is_anomalous as u32],
             None => [kind, 0, 0],
         }
     }
 
     /// The answer to a call, and the fields after it.
-    pub fn step(&mut self, Call(letter, [a, b, c, d]): Call) -> Option<Step> {
-        let (x, y) = (f32::from_bits(a), f32::from_bits(b));
-        let answer = match (letter, &mut self.0) {
+    pub fn step(&mut self, Call(letter, numbers): Call) -> Option<Step> {
+        let [a, b, c, d, rest @ ..] = numbers;
+        let [x, y, z, w] = [a, b, c, d].map(f32::from_bits);
+        let answer = match (letter, &mut self.detector) {
             ('a', _) => self.made(EwmaDetector::new(x, y)),
             ('o', _) => self.made(EwmaDetector::with_options(x, y, c, d)),
+            ('p', _) => self.made(Some(look::detector_of([x, y, z, w], rest))),
             (_, None) => return None,
-            ('u', Some(kept)) => Original::update(kept, x),
+            ('u', Some(kept)) => Original::update(kept, &mut self.means, x),
             ('z', Some(kept)) => [if kept.set_freeze_duration(a).is_ok() { 0 } else { 8 }, 0, 0],
             (_, Some(kept)) => {
                 kept.recalibrate(x);

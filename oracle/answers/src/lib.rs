@@ -1,5 +1,7 @@
 //! Scripts of library calls: how a line is read, and how answers are written. SCRIPTS.md has the form.
 
+pub mod amended;
+pub mod bad_means;
 pub mod framelog;
 pub mod generate;
 pub mod host;
@@ -126,24 +128,31 @@ pub fn definition(d: &SignalDefinition) -> String {
     )
 }
 
-/// All machines on one script: the Rust's answers, and the model's on lines of their own; on models of bytes the Rust's, held to a plain model.
+/// All machines on one script: the Rust's answers with the means that document 02 keeps, and the model's on lines of their own; on models of bytes the Rust's,
+/// held to a plain model.
 #[derive(Default)]
 pub struct Both {
+    alone: bool,
     unchanged: unchanged::Machine,
     model: model::Machine,
     models: models::Machine,
 }
 
 impl Both {
-    /// All lines for a call. The model's are left out where they are not asked for.
-    pub fn answer(&mut self, line: &str, with_model: bool, out: &mut String) {
+    /// The Rust alone: no mean is kept, and the model's lines are left out.
+    pub fn alone() -> Self {
+        Both { alone: true, unchanged: unchanged::Machine::alone(), ..Default::default() }
+    }
+
+    /// All lines for a call.
+    pub fn answer(&mut self, line: &str, out: &mut String) {
         let (letter, mut fields) = Fields::of(line);
         if let Some(text) = self.unchanged.answer(letter, &mut fields) {
             out.push_str(&text);
             out.push('\n');
         }
         let (letter, mut fields) = Fields::of(line);
-        if let Some(text) = self.model.answer(letter, &mut fields).filter(|_| with_model) {
+        if let Some(text) = self.model.answer(letter, &mut fields).filter(|_| !self.alone) {
             out.push_str(&text);
             out.push('\n');
         }
@@ -152,6 +161,11 @@ impl Both {
             out.push_str(&text);
             out.push('\n');
         }
+    }
+
+    /// How many means were kept by samples, and how many in frames.
+    pub fn kept(&self) -> (u64, u64) {
+        (self.unchanged.by_samples.kept, self.unchanged.in_frames.kept)
     }
 
     /// What there was of models of bytes.

@@ -1,7 +1,9 @@
-//! A plain model, written from document 01 as amended by document 02, T-01, T-02 and T-05, of what the Rust has no counterpart for: why a signal has no value, the
-//! writer, the case of a detector's answer, the outcome of each definition that applies to a frame with the counts, and a line of the log. Values, the
-//! multiplexor's number and detector steps are the Rust's, and the text of a line is that of the log program over the Rust.
+//! A plain model, written from document 01 as amended by document 02, T-01, T-02, T-05 and T-06, of what the Rust has no counterpart for: why a signal has no
+//! value, the writer, the case of a detector's answer, the outcome of each definition that applies to a frame with the counts, and a line of the log. Values and
+//! the multiplexor's number are the Rust's, and so are detector steps but for the means that T-06 keeps (amended.rs). The text of a line is that of the log
+//! program over the Rust.
 
+use crate::amended::Means;
 use crate::{bytes, float, framelog, Fields};
 use vs_anomaly::{look, EwmaDetector};
 use vs_signal_ids::{extract_signal, extract_signal_raw, ByteOrder, SignalDefinition};
@@ -208,7 +210,7 @@ impl Engine {
                             0 => 254,
                             heard => heard,
                         };
-                        let score = r.detector.update(value).filter(|_| case == 3);
+                        let score = Means::default().update(&mut r.detector, value).filter(|_| case == 3);
                         (case + 1, value, score.map_or(0.0, |s| s.z_score), score.is_some_and(|s| s.is_anomalous))
                     }
                     (None, Some(number)) => (number, 0.0, 0.0, false),
@@ -254,7 +256,7 @@ impl Machine {
                 let d = self.detector.as_mut()?;
                 let value = f.float();
                 let text = format!("v {}", case(d, value));
-                let _ = d.update(value);
+                let _ = Means::default().update(d, value);
                 return Some(text);
             }
             "z" => {

@@ -1,5 +1,7 @@
-//! The answers of the unchanged Rust, with the model's number for each `None` of extraction. What the Rust has no counterpart for is left out.
+//! The answers of the unchanged Rust, with the model's number for each `None` of extraction, and with document 02's rule for a mean that is not finite laid over
+//! its steps (amended.rs). What the Rust has no counterpart for is left out.
 
+use crate::amended::Means;
 use crate::{definition, detector, float, host, model, refusal, Fields};
 use vs_anomaly::{look as inner, EwmaDetector};
 use vs_can_monitor::CanFrame;
@@ -44,16 +46,16 @@ fn numbers(e: &SignalIdsEngine, i: usize) -> ([u32; 4], [u32; 5]) {
 }
 
 /// A lent frame as an FD frame's record of the bytes that count, which are at most 64. A standard one also goes, on a copy of the engine, to the Rust's call for
-/// raw frames, which takes lent bytes as they are: the answer and the detectors are to be the same.
-fn lent(e: &mut SignalIdsEngine, header: CanFrame, bytes: &[u8]) -> String {
+/// raw frames, which takes lent bytes as they are: the answer and the detectors are to be the same. Means are kept on both, and counted once.
+fn lent(e: &mut SignalIdsEngine, means: &mut Means, header: CanFrame, bytes: &[u8]) -> String {
     let n = header.payload_len();
     let record = filled(CanFrame { is_fd: true, length: n.min(bytes.len()) as u8, ..header }, bytes);
-    let mut other = look::copy(e);
-    let answer = listed("F", &e.process_frame(&record));
+    let (mut other, mut not_counted) = (look::copy(e), *means);
+    let answer = listed("F", &means.frame(e, |e| e.process_frame(&record)));
     if header.is_extended {
         return answer;
     }
-    let raw = listed("F", &other.process_raw_frame(header.id & 0x7FF, bytes, n));
+    let raw = listed("F", &not_counted.frame(&mut other, |e| e.process_raw_frame(header.id & 0x7FF, bytes, n)));
     if raw == answer && (0..e.signal_count()).all(|i| numbers(e, i) == numbers(&other, i)) {
         return answer;
     }
@@ -65,14 +67,21 @@ fn state(d: &Option<EwmaDetector>) -> String {
     d.as_ref().map_or(" 00000000".repeat(9), detector)
 }
 
-/// The detector and the engine that a script acts on.
+/// The detector and the engine that a script acts on, and the means kept by samples and in frames.
 #[derive(Default)]
 pub struct Machine {
     detector: Option<EwmaDetector>,
     engine: Option<SignalIdsEngine>,
+    pub by_samples: Means,
+    pub in_frames: Means,
 }
 
 impl Machine {
+    /// The Rust alone, whose means can go bad.
+    pub fn alone() -> Self {
+        Machine { by_samples: Means::alone(), in_frames: Means::alone(), ..Default::default() }
+    }
+
     fn made(&mut self, letter: &str, d: Option<EwmaDetector>) -> String {
         self.detector = d;
         format!("{letter} {}{}", if d.is_some() { 0 } else { 7 }, state(&d))
@@ -84,7 +93,7 @@ impl Machine {
             return Some(format!("k {} {} {:08X}", float(d.mean()), float(d.variance()), d.count()));
         }
         let answer = match letter {
-            "u" | "t" => match d.update(f.float()) {
+            "u" | "t" => match self.by_samples.update(d, f.float()) {
                 Some(s) => format!("00000001 {} {:08X}", float(s.z_score), s.is_anomalous as u8),
                 None => "00000000 00000000 00000000".to_string(),
             },
@@ -98,7 +107,7 @@ impl Machine {
     }
 
     fn on_engine(&mut self, letter: &str, f: &mut Fields) -> Option<String> {
-        let e = self.engine.as_mut()?;
+        let (e, means) = (self.engine.as_mut()?, &mut self.in_frames);
         Some(match letter {
             "d" => told("d", e.define_signal(f.definition()).map(Some)),
             "b" => {
@@ -117,12 +126,12 @@ impl Machine {
             }
             "f" => {
                 let frame = filled(header(f), &f.bytes());
-                listed("f", &e.process_frame(&frame))
+                listed("f", &means.frame(e, |e| e.process_frame(&frame)))
             }
-            "F" => lent(e, header(f), &f.bytes()),
+            "F" => lent(e, means, header(f), &f.bytes()),
             "g" => {
                 let (id, n, data) = (f.number() as u32, f.number() as usize, f.bytes());
-                listed("g", &e.process_raw_frame(id, &data, n))
+                listed("g", &means.frame(e, |e| e.process_raw_frame(id, &data, n)))
             }
             _ => {
                 let mut text = format!("s {:08X} {:08X}", e.signal_count(), e.next_slot());

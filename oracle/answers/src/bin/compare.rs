@@ -1,7 +1,9 @@
-//! Holds the two programs beside the Rust: scripts of library calls, and logs. Stops at the first difference, which it makes small.
+//! Holds the two programs beside the Rust, with the means that document 02 keeps: scripts of library calls, and logs. Stops at the first difference, which it makes
+//! small.
 
+use answers::amended::Means;
 use answers::framelog::{self, Counted};
-use answers::{generate as g, models, Both};
+use answers::{bad_means, generate as g, models, Both};
 use std::fs::File;
 use std::io::{BufWriter, Write};
 use std::path::{Path, PathBuf};
@@ -9,8 +11,8 @@ use std::process::{exit, Command, Stdio};
 use std::time::{Duration, Instant};
 
 /// What a run is asked for. `at_least` is how many calls, logs, keys alone, remote frames both in calls and in logs, cases of each reason for no value, calls
-/// on models of bytes, and FD frames both in calls and in logs it has to have compared at its end; `emulator` are the words before a program, where the
-/// machine can't run one by itself.
+/// on models of bytes, FD frames both in calls and in logs, and means kept by samples, in frames by calls and in logs, those of the cases that are the same in
+/// every run left out, it has to have compared at its end; `emulator` are the words before a program, where the machine can't run one by itself.
 #[derive(Default)]
 struct Asked {
     seconds: Option<u64>,
@@ -19,11 +21,11 @@ struct Asked {
     every: usize,
     pack: Option<PathBuf>,
     seed: u64,
-    at_least: [u64; 7],
+    at_least: [u64; 8],
     emulator: Vec<String>,
 }
 
-const USAGE: &str = "usage: compare [--seconds N] [--cases N] [--logs N [--every N] [--pack FILE]] [--seed N] [--at-least CALLS LOGS KEYS REMOTE REASON MODELS FD] [--emulator WORDS]";
+const USAGE: &str = "usage: compare [--seconds N] [--cases N] [--logs N [--every N] [--pack FILE]] [--seed N] [--at-least CALLS LOGS KEYS REMOTE REASON MODELS FD MEANS] [--emulator WORDS]";
 
 fn asked(words: &[String]) -> Option<Asked> {
     let mut a = Asked { every: 1, seed: 1, ..Default::default() };
@@ -36,7 +38,7 @@ fn asked(words: &[String]) -> Option<Asked> {
             "--logs" => a.logs = Some(number()?),
             "--every" => a.every = number().filter(|n| *n > 0)? as usize,
             "--seed" => a.seed = number()?,
-            "--at-least" => a.at_least = [number()?, number()?, number()?, number()?, number()?, number()?, number()?],
+            "--at-least" => a.at_least = [number()?, number()?, number()?, number()?, number()?, number()?, number()?, number()?],
             "--pack" => a.pack = Some(PathBuf::from(words.next()?)),
             "--emulator" => a.emulator = words.next()?.split_whitespace().map(String::from).collect(),
             _ => return None,
@@ -67,23 +69,28 @@ impl Program {
 }
 
 fn answers_of(script: &str) -> String {
-    answers_and_seen(script).0
+    answers_and_machines(script).0
 }
 
-/// The answers to a script, and what there was in it of models of bytes.
-fn answers_and_seen(script: &str) -> (String, models::Seen) {
-    let mut both = Both::default();
+/// What the machines answer to a script.
+fn answers_by(both: &mut Both, script: &str) -> String {
     let mut out = String::new();
     for line in script.lines() {
-        both.answer(line, true, &mut out);
+        both.answer(line, &mut out);
     }
-    (out, both.seen())
+    out
 }
 
-/// What is printed for a log, and how many of its sound records are remote and FD frames.
+/// The answers to a script, and the machines after it, which know what there was of models of bytes and how many means were kept.
+fn answers_and_machines(script: &str) -> (String, Both) {
+    let mut both = Both::default();
+    (answers_by(&mut both, script), both)
+}
+
+/// What is printed for a log, how many of its sound records are remote and FD frames, and how many means were kept in them.
 fn log_of(log: &[u8]) -> (Vec<u8>, Counted) {
     let mut out = Vec::new();
-    let counted = framelog::run(log, &mut out);
+    let counted = framelog::run(log, &mut out, Means::default());
     (out, counted)
 }
 
@@ -242,6 +249,8 @@ struct Bench {
     logs: u64,
     isolated: u64,
     lent: u64,
+    by_samples: u64,
+    before_rounds: [u64; 3],
     in_calls: Counted,
     in_logs: Counted,
     reasons: Reasons,
@@ -253,9 +262,12 @@ impl Bench {
         self.calls += script.lines().count() as u64;
         self.lent += script.lines().filter(|l| is_lent(l)).count() as u64;
         self.in_calls.add(counted_of(script));
-        let (answers, seen) = answers_and_seen(script);
+        let (answers, both) = answers_and_machines(script);
         self.reasons.add(&answers);
-        self.models.add(seen);
+        self.models.add(both.seen());
+        let (by_samples, in_frames) = both.kept();
+        self.by_samples += by_samples;
+        self.in_calls.means += in_frames;
         if self.replay.output(script.as_bytes(), &self.scratch) == answers.as_bytes() {
             return;
         }
@@ -332,11 +344,13 @@ impl Bench {
         for log in g::flagged_logs() {
             self.log(&log, 2);
         }
-        let whole = g::log(&mut d, 24);
+        let whole = g::log(&mut d, 24, false);
         for cut in 0..=whole.len() {
             self.log(&whole[..cut], 24);
         }
         self.fixed_models();
+        self.fixed_means();
+        self.before_rounds = self.kept();
     }
 
     /// The cases of FD frames that are the same in every run: every length, and both types of one identifier alone.
@@ -389,6 +403,26 @@ impl Bench {
         self.script(&out);
     }
 
+    /// The cases of means that go bad in the Rust, which are the same in every run. Each has such a mean by itself.
+    fn fixed_means(&mut self) {
+        let [rust, amended] = [Both::alone(), Both::default()].map(|mut both| answers_by(&mut both, bad_means::SMALLEST));
+        assert!(["k 7F800000 00000000 00000002\n", "k 7FC00000 00000000 00000003\n"].iter().all(|k| rust.contains(k)), "the Rust's mean does not become infinite, then NaN");
+        assert!(["k FF7FFFFF 00000000 00000002\n", "k 00000000 00000000 00000003\n"].iter().all(|k| amended.contains(k)), "the mean does not stay");
+        self.script(bad_means::SMALLEST);
+        for cases in [bad_means::detectors(), bad_means::engines()] {
+            for case in &cases {
+                let (by_samples, in_frames) = answers_and_machines(case).1.kept();
+                assert!(by_samples + in_frames > 0, "no mean goes bad in this case:\n{case}");
+            }
+            self.script(&cases.concat());
+        }
+        self.isolation(&bad_means::both_types());
+        for (log, records) in bad_means::logs() {
+            assert!(log_of(&log).1.means > 0, "no mean goes bad in this log: {}", answers::bytes(&log));
+            self.log(&log, records);
+        }
+    }
+
     fn round(&mut self, seed: u64) {
         let mut d = g::Dice::new(seed);
         let mut out = String::new();
@@ -404,7 +438,7 @@ impl Bench {
         let mut one = String::new();
         g::one_engine(&mut one, &mut d, 300, false, g::Frames::Lent);
         self.isolation(&one);
-        let long = g::log(&mut d, 5_000);
+        let long = g::log(&mut d, 5_000, false);
         self.log(&long, 5_000);
         for _ in 0..40 {
             self.damaged(&mut d);
@@ -412,12 +446,29 @@ impl Bench {
         let mut on_models = String::new();
         g::models(&mut on_models, &mut g::Dice::new(seed.wrapping_add(1 << 32)), 20_000);
         self.script(&on_models);
+        self.means(&mut g::Dice::new(seed.wrapping_add(2 << 32)));
+    }
+
+    /// Samples, frames and logs with values over the whole range of f32.
+    fn means(&mut self, d: &mut g::Dice) {
+        let mut out = String::new();
+        g::wide_samples(&mut out, d, 4_000);
+        g::engines(&mut out, d, 4_000, 12, g::Frames::Full);
+        self.script(&out);
+        let mut one = String::new();
+        g::one_engine(&mut one, d, 100, false, g::Frames::Full);
+        self.isolation(&one);
+        for _ in 0..6 {
+            let log = g::log(d, 150, true);
+            self.log(&log, 150);
+        }
     }
 
     /// A short log that came in damaged.
     fn damaged(&mut self, d: &mut g::Dice) {
         let records = 1 + d.below(60);
-        let mut short = g::log(d, records as usize);
+        let full = d.one_in(4);
+        let mut short = g::log(d, records as usize, full);
         for _ in 0..=d.below(3) {
             if !short.is_empty() {
                 g::damage(d, &mut short);
@@ -431,7 +482,7 @@ impl Bench {
         let examples = Path::new(env!("CARGO_MANIFEST_DIR")).join("../../examples");
         for name in logs_in(&examples).into_iter().chain(logs_in(&examples.join("damaged"))) {
             let whole = std::fs::read(name).expect("an example");
-            for cut in (0..=whole.len()).step_by(every) {
+            for cut in (0..whole.len()).step_by(every).chain([whole.len()]) {
                 self.log(&whole[..cut], 0);
             }
         }
@@ -452,6 +503,7 @@ impl Bench {
             "compared {} calls ({} remote frames, {} FD frames, {} lent frames), {} logs of {} records ({} remote frames, {} FD frames), {} keys alone: no difference ({} s)",
             self.calls, self.in_calls.remote, self.in_calls.fd, self.lent, self.logs, self.records, self.in_logs.remote, self.in_logs.fd, self.isolated, since.elapsed().as_secs()
         );
+        println!("means kept that go bad in the Rust: {} by samples, {} in frames by calls, {} in frames of logs", self.by_samples, self.in_calls.means, self.in_logs.means);
         if self.calls > 0 {
             let [[a, b, _], [c, d, _], [e, f, g], [h, i, j]] = self.reasons.0;
             println!("refused by 1 and 16: extract_raw {a} {b}, extract_signal_raw {c} {d}; by 1, 16 and 17: extract_signal {e} {f} {g}");
@@ -460,6 +512,28 @@ impl Bench {
             println!("calls on models {}: {}", self.models.calls, cases.join(", "));
         }
         let _ = std::io::stdout().flush();
+    }
+
+    /// How many means were kept by samples, in frames by calls and in logs.
+    fn kept(&self) -> [u64; 3] {
+        [self.by_samples, self.in_calls.means, self.in_logs.means]
+    }
+
+    /// Whether the run compared what it was asked for, and saw every case that it has to see. Says what is missing.
+    fn enough(&self, at_least: [u64; 8]) -> bool {
+        let [calls, logs, keys, remote, reason, on_models, fd, means] = at_least;
+        let fewer = self.calls < calls || self.logs < logs || self.isolated < keys || self.in_calls.remote.min(self.in_logs.remote) < remote;
+        let [by_samples, in_calls, in_logs] = self.kept();
+        let kept = self.kept().iter().zip(self.before_rounds).map(|(all, before)| all - before).min();
+        if fewer || self.reasons.least() < reason || self.models.calls < on_models || self.in_calls.fd.min(self.in_logs.fd) < fd || kept < Some(means) {
+            println!("FEWER than the {calls} calls, {logs} logs, {keys} keys alone, {remote} remote frames in calls and in logs, {reason} cases of each reason, {on_models} calls on models, {fd} FD frames in calls and in logs, and {means} means kept in the rounds by samples, in frames by calls and in logs that were asked for");
+            return false;
+        }
+        if self.calls > 0 && self.reasons.least().min(self.models.least()).min(self.lent).min(by_samples).min(in_calls) == 0 || self.logs > 0 && in_logs == 0 {
+            println!("NOT SEEN: one of the reasons for no value, one of the cases of models, a lent frame, or a mean kept by a sample, in a frame by a call or in a log");
+            return false;
+        }
+        true
     }
 }
 
@@ -473,7 +547,7 @@ fn main() {
     let scratch = std::env::temp_dir().join(format!("compare-{}", std::process::id()));
     let pack = asked.pack.map(|file| BufWriter::new(File::create(file).expect("the pack is made")));
     let program = |name| Program::new(&asked.emulator, &bin.join(name));
-    let mut b = Bench { replay: program("replay"), framelog: program("framelog"), scratch, pack, calls: 0, records: 0, logs: 0, isolated: 0, lent: 0, in_calls: Counted::default(), in_logs: Counted::default(), reasons: Reasons::default(), models: models::Seen::default() };
+    let mut b = Bench { replay: program("replay"), framelog: program("framelog"), scratch, pack, calls: 0, records: 0, logs: 0, isolated: 0, lent: 0, by_samples: 0, before_rounds: [0; 3], in_calls: Counted::default(), in_logs: Counted::default(), reasons: Reasons::default(), models: models::Seen::default() };
     let since = Instant::now();
     let mut said = since;
     if let Some(n) = asked.logs {
@@ -505,14 +579,7 @@ fn main() {
     }
     println!("seeds {} to {}", asked.seed, seed.max(asked.seed + 1) - 1);
     let _ = std::fs::remove_file(&b.scratch);
-    let [calls, logs, keys, remote, reason, on_models, fd] = asked.at_least;
-    let fewer = b.calls < calls || b.logs < logs || b.isolated < keys || b.in_calls.remote.min(b.in_logs.remote) < remote;
-    if fewer || b.reasons.least() < reason || b.models.calls < on_models || b.in_calls.fd.min(b.in_logs.fd) < fd {
-        println!("FEWER than the {calls} calls, {logs} logs, {keys} keys alone, {remote} remote frames in calls and in logs, {reason} cases of each reason, {on_models} calls on models, and {fd} FD frames in calls and in logs that were asked for");
-        exit(1);
-    }
-    if b.calls > 0 && b.reasons.least().min(b.models.least()).min(b.lent) == 0 {
-        println!("NOT SEEN: one of the reasons for no value, one of the cases of models, or a lent frame");
+    if !b.enough(asked.at_least) {
         exit(1);
     }
 }

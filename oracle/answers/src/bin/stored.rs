@@ -1,6 +1,6 @@
 //! Prints the script that crates/replay keeps: the short cases of every kind, from one seed.
 
-use answers::generate as g;
+use answers::{bad_means, generate as g};
 
 fn main() {
     let mut d = g::Dice::new(1);
@@ -37,5 +37,7 @@ fn main() {
     g::given_bytes(&mut out, 'F');
     g::lent_multiplexors(&mut out);
     g::one_engine(&mut out, &mut g::Dice::new(8), 60, false, g::Frames::Lent);
+    out.extend(bad_means::detectors().into_iter().step_by(11));
+    out.extend(bad_means::engines().into_iter().step_by(9));
     print!("{out}");
 }

@@ -9,10 +9,10 @@ use lib.ListN.{length, take, drop, length-append, length-drop}
 use lib.Seq.{length-take-le}
 use lib.IntN.{ℤ, pos, negsuc}
 use borrow.Author.Tests.{ne_eqb}
-use Rattle.log.specs.declared.stream.Log.{Log}
-use Rattle.log.specs.Output.{Standing}
-use Rattle.log.specs.Pieces.{is_ended, concat}
-use Rattle.log.proofs.Ends.{MovesOn, moves_on, waits_short}
+use Rattle.can_log.specs.declared.stream.Log.{Log}
+use Rattle.can_log.specs.Output.{Standing}
+use Rattle.can_log.specs.Pieces.{is_ended, concat}
+use Rattle.can_log.proofs.Ends.{MovesOn, moves_on, waits_short}
 use Rattle.framelog.specs.declared.Got.{Got}
 use Rattle.framelog.specs.declared.State.{State}
 use Rattle.framelog.specs.Program.{got_of, Read, is_waiting, next_of, after_write, Prints, Turn, unread, more, at_end, unreadable, piece_of, Turns, none, then, pieces, made}

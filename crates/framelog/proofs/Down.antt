@@ -7,11 +7,11 @@ use native.Mathlib.Omega.{arith}
 use lib.ListN.{length, take, drop, set, get_or, length-drop}
 use lib.Seq.{sets, sets-eq, take_at, take-add, drop_at, get_or-set_other, get_or-drop, length-take-le}
 use Rattle.io.specs.Counts.{IsPrefixLen}
-use Rattle.log.specs.declared.stream.Log.{Log}
-use Rattle.log.specs.declared.stream.Step.{Step}
-use Rattle.log.specs.Pieces.{Does, advance_of}
-use Rattle.log.proofs.Texts.{one_more}
-use Rattle.log.proofs.Runs.{advance_fits}
+use Rattle.can_log.specs.declared.stream.Log.{Log}
+use Rattle.can_log.specs.declared.stream.Step.{Step}
+use Rattle.can_log.specs.Pieces.{Does, advance_of}
+use Rattle.can_log.proofs.Texts.{one_more}
+use Rattle.can_log.proofs.Runs.{advance_fits}
 use Rattle.framelog.specs.Program.{remaining}
 
 above : (vs l : List ℕ) (i k : ℕ) → i + length vs ≤ k → get_or (sets l i vs) k 0 ≡ get_or l k 0

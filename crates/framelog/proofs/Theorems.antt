@@ -6,8 +6,8 @@ use Prim.Native.Nat.{◌^◌, ◌≤◌}
 use native.Mathlib.Omega.{arith}
 use contract.Lifetimes.{Lfts}
 use lib.ListN.{length}
-use Rattle.log.specs.Output.{output}
-use Rattle.log.specs.Pieces.{concat}
+use Rattle.can_log.specs.Output.{output}
+use Rattle.can_log.specs.Pieces.{concat}
 use Rattle.framelog.specs.Program.{pieces, lines, all_succeed, made, Ran}
 use Rattle.framelog.proofs.Whole.{whole_output}
 use Rattle.framelog.proofs.Count.{few_turns}

@@ -10,11 +10,11 @@ use lib.ListN.{length, take, drop}
 use lib.Seq.{length-sets, length-take-le}
 use lib.Dec.{eqb}
 use Rattle.libc.specs.Io.{Moved}
-use Rattle.log.specs.declared.stream.Log.{Log}
-use Rattle.log.specs.declared.stream.Step.{Step}
-use Rattle.log.specs.Output.{Move, status_means}
-use Rattle.log.specs.Pieces.{Does}
-use Rattle.log.proofs.Runs.{run_fits}
+use Rattle.can_log.specs.declared.stream.Log.{Log}
+use Rattle.can_log.specs.declared.stream.Step.{Step}
+use Rattle.can_log.specs.Output.{Move, status_means}
+use Rattle.can_log.specs.Pieces.{Does}
+use Rattle.can_log.proofs.Runs.{run_fits}
 use Rattle.framelog.specs.declared.Got.{Got}
 use Rattle.framelog.specs.declared.State.{State}
 use Rattle.framelog.specs.Program.{got_of, Read, remaining, after_write, move_of, Prints, Turn, unread, more, at_end, unreadable, Turns, none, then, made, begun, Ran}

@@ -7,11 +7,11 @@ use Prim.Native.Nat.{ℕ, ◌+◌, ◌-◌, ◌≤◌}
 use native.Mathlib.Omega.{arith}
 use lib.ListN.{length, take, drop}
 use lib.Seq.{take-add}
-use Rattle.log.specs.declared.stream.Log.{Log}
-use Rattle.log.specs.Output.{output}
-use Rattle.log.specs.Pieces.{is_ended, concat, Calls, read, call, last}
-use Rattle.log.proofs.Seams.{any_cutting}
-use Rattle.log.proofs.Ends.{Stands, stands}
+use Rattle.can_log.specs.declared.stream.Log.{Log}
+use Rattle.can_log.specs.Output.{output}
+use Rattle.can_log.specs.Pieces.{is_ended, concat, Calls, read, call, last}
+use Rattle.can_log.proofs.Seams.{any_cutting}
+use Rattle.can_log.proofs.Ends.{Stands, stands}
 use Rattle.framelog.specs.declared.State.{State}
 use Rattle.framelog.specs.Program.{is_waiting, next_of, after_write, Prints, unread, more, at_end, unreadable, Turns, none, then, pieces, lines, all_succeed, begun}
 use Rattle.framelog.proofs.Turns.{moved, left, fits, kept_in, read_in}

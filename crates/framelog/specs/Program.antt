@@ -4,9 +4,9 @@
 use Rattle.std.specs.Prelude.{ℕ, zero, suc, ◌+◌, ◌-◌, ◌≡◌, Bool, true, false, cond, not, ◌&&◌, List, [], ◌∷◌, ◌++◌, ◌⊎◌, ℤ, pos, negsuc, length, take, drop, eqb}
 use Rattle.std.proofs.lemmas.List.Edits.{sets}
 use Rattle.libc.specs.Io.{Moved}
-use Rattle.log.specs.declared.stream.Log.{Log}
-use Rattle.log.specs.Output.{Standing, Move, start_of}
-use Rattle.log.specs.Pieces.{advance_of, is_ended}
+use Rattle.can_log.specs.declared.stream.Log.{Log}
+use Rattle.can_log.specs.Output.{Standing, Move, start_of}
+use Rattle.can_log.specs.Pieces.{advance_of, is_ended}
 use Rattle.framelog.specs.declared.Got.{Got}
 use Rattle.framelog.specs.declared.State.{State}
 

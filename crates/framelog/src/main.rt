@@ -1,12 +1,14 @@
 // Reads a log from standard input, and writes its lines to standard output.
+#![tactic(auto)]
+
 ghost use Rattle.std.specs.Prelude.{◌≡◌, ◌-◌, ◌≤◌, length, take, drop};
 ghost use Rattle.std.proofs.lemmas.List.Edits.{sets};
-ghost use Rattle.log.specs.Pieces.{Does, advance_of, is_ended};
-ghost use Rattle.log.specs.Output.{status_means};
+ghost use Rattle.can_log.specs.Pieces.{Does, advance_of, is_ended};
+ghost use Rattle.can_log.specs.Output.{status_means};
 ghost use Rattle.framelog.specs.Program.{got_of, Read, is_waiting, remaining, failed_of, after_write, Prints, Turn, Ran};
 
+use can_log::{Log, Status, Step};
 use libc::{STDIN_FILENO, STDOUT_FILENO};
-use log::{Log, Status, Step};
 
 #[derive(Drop)]
 enum Got {
@@ -45,7 +47,7 @@ fn work(log: Log, have: usize, ended: bool, input: &mut [u8], out: &mut [u8]) ->
     ensures does { Does out.old 0 (advance_of (length out.old) ended log (take have input.old)) result out.new }
     ensures input_after { input.new ≡ remaining input.old have result.used }
 {
-    let r = log::advance(log, &input[..have], ended, out);
+    let r = can_log::advance(log, &input[..have], ended, out);
     let used = r.used;
     move_down(input, used, have);
     r
@@ -165,7 +167,7 @@ fn run(input: &mut [u8], out: &mut [u8])
     ensures { Ran input.old out.old input.new out.new }
 {
     let mut st = State {
-        log: log::start(),
+        log: can_log::start(),
         have: 0,
         ended: false,
         waiting: true,

@@ -1,5 +1,7 @@
 // What a host in C or Rust links, to make detectors that it keeps itself and to move them in place; hosts/include/shedgrommet_detector.h says it in C.
 // An enum cannot cross that border, so each answer is a struct of numbers.
+#![tactic(auto)]
+
 ghost use Rattle.std.specs.Prelude.{◌≡◌};
 ghost use Rattle.detector.specs.Answers.{made_means, verdict_means};
 ghost use Rattle.detector.specs.Ewma.{idle, made_of, updated, reset_of, recalibrated};

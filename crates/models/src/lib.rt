@@ -1,6 +1,8 @@
 // Models of bytes that have no mean worth watching, counters and states: how often each byte came (`HistogramDetector`), and how often one came after
 // another (`MarkovDetector`). A model is a value and its counts are lent: each call takes the model with its counts and returns the model after it.
 // Every call takes any model and any counts; a refusal returns the model that came in and leaves the counts.
+#![tactic(auto)]
+
 ghost use Rattle.std.specs.Prelude.{◌≡◌, true, ◌||◌, cond, ◌*◌, ◌%◌, ◌^◌, ◌≤◌, ◌<◌, pos, length};
 ghost use Rattle.std.specs.Float.{binary32};
 ghost use Rattle.std.specs.Float.Ieee.{of_int};

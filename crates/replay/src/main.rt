@@ -1,6 +1,8 @@
 // Answers a script of library calls on standard input: each answer, each lent buffer and, where asked, the whole state.
 // The same script goes to the Rust, and the two outputs are compared. The form of a script is in oracle/SCRIPTS.md; the
 // files stdin and stdout of this crate, a script and the Rust's answers, are made by oracle/stored.
+#![tactic(auto)]
+
 mod chaining;
 mod detecting;
 mod engine;

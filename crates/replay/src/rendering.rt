@@ -1,8 +1,8 @@
 // A line of the log's output, rendered into a lent buffer.
 use crate::script::{bytes, float, low8, low16, low32, number};
 use crate::show::{put_byte, put_bytes, put_field, put_text};
+use can_log::{LogLine, Rendered, render};
 use frames::SignalAnomaly;
-use log::{LogLine, Rendered, render};
 use table::Answer;
 
 // What a table call answered: case 0 is a slot, 1 success, any other a refusal.

@@ -4,7 +4,7 @@ use native.Mathlib.Omega.{arith}
 use mathlib.Core.Path.{ap}
 use mathlib.Core.Bool.{true, false}
 use borrow.Author.Tests.{not-true, not-false}
-use Rattle.log.specs.declared.stream.Log.{Log}
+use Rattle.can_log.specs.declared.stream.Log.{Log}
 use Rattle.framelog.specs.declared.State.{State}
 use Rattle.framelog.proofs.Turns.{Reached, at_first, next_turn, no_turn, no_turn_left}
 use Rattle.framelog.proofs.run.Statement.{statement}

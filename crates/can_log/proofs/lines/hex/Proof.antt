@@ -1,0 +1,48 @@
+-- `can_log::lines::hex` meets its contract.
+-- Assumes nothing.
+use Rattle.can_log.specs.Lines.{hex8}
+use borrow.Author.Rules.{rules}
+use Rattle.can_log.proofs.lines.hex.Statement.{statement}
+use Rattle.can_log.proofs.lines.hex.Tie as tie
+
+digit-requires : tie.Need-digit-requires
+digit-requires c κs = search rules
+
+digit-requires-2 : tie.Need-digit-requires-2
+digit-requires-2 c κs = search rules
+
+digit-requires-3 : tie.Need-digit-requires-3
+digit-requires-3 c κs = search rules
+
+digit-requires-4 : tie.Need-digit-requires-4
+digit-requires-4 c κs = search rules
+
+digit-requires-5 : tie.Need-digit-requires-5
+digit-requires-5 c κs = search rules
+
+digit-requires-6 : tie.Need-digit-requires-6
+digit-requires-6 c κs = search rules
+
+digit-requires-7 : tie.Need-digit-requires-7
+digit-requires-7 c κs = search rules
+
+digit-requires-8 : tie.Need-digit-requires-8
+digit-requires-8 c κs = search rules
+
+returns : tie.Need-returns
+unfolding hex8
+returns c = simp (c.before.before.before.before.before.before.before.digit.ensures, c.before.before.before.before.before.before.digit2.ensures, c.before.before.before.before.before.digit3.ensures, c.before.before.before.before.digit4.ensures, c.before.before.before.digit5.ensures, c.before.before.digit6.ensures, c.before.digit7.ensures, c.digit8.ensures)
+
+pub hex-spec : {M : Type 1} → statement M
+hex-spec =
+    tie.close
+    (tie.spec
+    digit-requires
+    digit-requires-2
+    digit-requires-3
+    digit-requires-4
+    digit-requires-5
+    digit-requires-6
+    digit-requires-7
+    digit-requires-8
+    returns)

@@ -1,0 +1,14 @@
+-- `can_log::stream::last_number` meets its contract.
+-- Assumes nothing.
+use borrow.Author.Tests.{eq-eqb, ne_eqb}
+use Rattle.can_log.proofs.stream.last_number.Statement.{statement}
+use Rattle.can_log.proofs.stream.last_number.Tie as tie
+
+returns : tie.Need-returns
+returns c = simp (eq-eqb _ _ c.if1.true)
+
+returns-2 : tie.Need-returns-2
+returns-2 c = simp (ne_eqb _ _ c.if1.false)
+
+pub last-number-spec : {M : Type 1} → statement M
+last-number-spec = tie.close (tie.spec returns returns-2)

@@ -1,0 +1,216 @@
+// A log as it goes: as many records as the bytes at hand and the room for their lines allow.
+ghost use Rattle.std.specs.Prelude.{◌≡◌, ◌+◌, ◌<◌, ◌≤◌, length};
+ghost use Rattle.can_log.specs.Records.{request_means};
+ghost use Rattle.can_log.specs.Output.{start_of, data_size, status_means, goes_on, last_number, stop_step, wait_step, settled_step, called_step, request_step};
+ghost use Rattle.can_log.specs.Pieces.{Does, after, answer_of, sound_of, advance_of};
+
+use crate::decode::{Item, Request, item_at_front};
+use crate::lines::{put_anomalies, put_answer, put_end};
+use frames::{FrameHeader, process_lent_frame};
+use table::{Answer, Defined, SignalIdsEngine};
+
+// No record is begun with less room: none prints more than eight lines of at most 55 bytes.
+const ROOM: usize = 512;
+
+#[derive(Drop)]
+pub struct Log {
+    // how many sound records there have been
+    pub count: u32,
+    pub engine: SignalIdsEngine,
+}
+
+#[derive(Drop)]
+pub enum Status {
+    // a record was taken, and the next may follow; no call ends so
+    Going,
+    // the bytes at hand are no whole record
+    Waiting,
+    // there may be no room for what the next record prints
+    Full,
+    // the log has stopped, and its end line is written
+    Ended,
+}
+
+#[derive(Drop)]
+pub struct Step {
+    pub log: Log,
+    // how many bytes were taken
+    pub used: usize,
+    // the place behind what was written
+    pub end: usize,
+    pub status: Status,
+}
+
+// A log before its first record. Its engine is the empty one that refused settings leave.
+pub fn start() -> Log
+    ensures { result ≡ start_of }
+{
+    let made = SignalIdsEngine::new(0.0, 0.0);
+    let engine = made.engine;
+    Log { count: 0, engine }
+}
+
+// What a call answers.
+fn answer(log: Log, used: usize, end: usize, status: Status) -> Step
+    ensures { result ≡ answer_of log used end status }
+{
+    Step {
+        log,
+        used,
+        end,
+        status,
+    }
+}
+
+// The answer after a sound record of `used` bytes, with the engine that it left.
+fn sound(log: Log, engine: SignalIdsEngine, used: usize, end: usize) -> Step
+    requires { log.count < 4294967295 }
+    ensures { result ≡ sound_of log engine used end }
+{
+    let n = log.count;
+    let next = Log {
+        count: n + 1,
+        engine,
+    };
+    answer(next, used, end, Status::Going)
+}
+
+// How many data bytes a frame's record has.
+fn data_size(header: FrameHeader) -> usize
+    ensures { result ≡ data_size header }
+{
+    if header.is_fd { 64 } else { 8 }
+}
+
+// The stopping number where the input ends with so many bytes that are no whole record.
+fn last_number(left: usize) -> u8
+    ensures { result ≡ last_number left }
+{
+    if left == 0 {
+        return 0;
+    }
+    11
+}
+
+// The log stops, `used` bytes having been taken before.
+fn on_stop(log: Log, used: usize, k: u8, out: &mut [u8], at: usize) -> Step
+    requires { at + 26 ≤ length out.old }
+    ensures { Does out.old at (after used (stop_step log k)) result out.new }
+{
+    let n = log.count;
+    let end = put_end(out, at, n, k);
+    answer(log, used, end, Status::Ended)
+}
+
+// No whole record at hand: at the end of the input the log ends, and else it waits.
+fn on_wait(log: Log, used: usize, left: usize, ended: bool, out: &mut [u8], at: usize) -> Step
+    requires { at + 26 ≤ length out.old }
+    ensures { Does out.old at (after used (wait_step ended log left)) result out.new }
+{
+    if ended {
+        return on_stop(log, used, last_number(left), out, at);
+    }
+    answer(log, used, at, Status::Waiting)
+}
+
+// Settings that are refused stop the log.
+fn on_settled(log: Log, made: Defined, out: &mut [u8], at: usize) -> Step
+    requires { (log.count < 4294967295) × (at + 26 ≤ length out.old) }
+    ensures { Does out.old at (settled_step log made.engine made.answer) result out.new }
+{
+    let engine = made.engine;
+    let answer = made.answer;
+    match answer {
+        Answer::Slot(_) => sound(log, engine, 10, at),
+        Answer::Done => sound(log, engine, 10, at),
+        Answer::Refused(k) => on_stop(log, 0, k, out, at),
+    }
+}
+
+// A table call is answered in a line, refused or not.
+fn on_called(log: Log, done: Defined, letter: &[u8], used: usize, out: &mut [u8], at: usize) -> Step
+    requires { (log.count < 4294967295) × (length letter.now ≡ 2) × (at + 32 ≤ length out.old) }
+    ensures { Does out.old at (called_step log letter.now used done) result out.new }
+{
+    let n = log.count;
+    let engine = done.engine;
+    let answer = done.answer;
+    let end = put_answer(out, at, letter, n + 1, answer);
+    sound(log, engine, used, end)
+}
+
+// What a record asks of the table is done, and answered.
+fn on_request(log: Log, q: Request, out: &mut [u8], at: usize) -> Step
+    requires { (log.count < 4294967295) × (at + 32 ≤ length out.old) }
+    ensures { Does out.old at (request_step log (request_means q)) result out.new }
+{
+    let engine = log.engine;
+    match q {
+        Request::Settings(alpha, threshold) => {
+            let made = SignalIdsEngine::new(alpha, threshold);
+            on_settled(log, made, out, at)
+        }
+        Request::Define(d) => {
+            let done = engine.define_signal(d);
+            on_called(log, done, b"D ", 24, out, at)
+        }
+        Request::Remove(slot) => {
+            let done = engine.remove_signal(slot);
+            on_called(log, done, b"R ", 4, out, at)
+        }
+    }
+}
+
+// Whether the next record may follow.
+fn goes_on(status: Status) -> bool
+    ensures { result ≡ goes_on (status_means status) }
+{
+    match status {
+        Status::Going => true,
+        Status::Waiting => false,
+        Status::Full => false,
+        Status::Ended => false,
+    }
+}
+
+// As many records as the bytes at hand and the room allow. `ended` says that the input ends with these bytes.
+pub fn advance(log: Log, s: &[u8], ended: bool, out: &mut [u8]) -> Step
+    ensures { Does out.old 0 (advance_of (length out.old) ended log s.now) result out.new }
+{
+    let mut engine = log.engine;
+    let mut count = log.count;
+    let mut used = 0;
+    let mut end = 0;
+    while out.len() - end >= ROOM {
+        match item_at_front(count, &s[used..]) {
+            Item::Wait => {
+                return on_wait(Log { count, engine }, used, s.len() - used, ended, out, end);
+            }
+            Item::Stop(k) => return on_stop(Log { count, engine }, used, k, out, end),
+            Item::Call(q) => {
+                let r = on_request(Log { count, engine }, q, out, end);
+                let next = r.log;
+                let status = r.status;
+                used += r.used;
+                end = r.end;
+                if !goes_on(status) {
+                    return answer(next, used, end, status);
+                }
+                engine = next.engine;
+                count = next.count;
+            }
+            Item::Frame(header) => {
+                let at = used + 8;
+                let behind = at + data_size(header);
+                let done = process_lent_frame(engine, header, &s[at..behind]);
+                engine = done.engine;
+                let result = done.result;
+                let listed = result.anomalies;
+                count += 1;
+                used = behind;
+                end = put_anomalies(out, end, count, listed, result.anomaly_count);
+            }
+        }
+    }
+    answer(Log { count, engine }, used, end, Status::Full)
+}

@@ -1,0 +1,39 @@
+-- `bits::gathered` meets its contract: the bytes that the signal touches, joined and cut, are its raw number.
+-- Assumes nothing.
+use mathlib.Core.Path.{refl, ap, ◌∙◌}
+use Prim.Native.Nat.{ℕ, ◌+◌, ◌-◌, ◌*◌, ◌/◌, ◌%◌, ◌^◌, ◌<◌}
+use native.Mathlib.Omega.{arith}
+use borrow.Author.Rules.{rules}
+use lib.ListN.{get_or}
+use Rattle.bits.proofs.Gathering.{Touched, touched, joined, gathers}
+use Rattle.bits.proofs.gathered.Goals as goal
+
+-- the bits below the signal are fewer than a byte has
+low : (c : goal.After-above_lowest)
+    → let a = c.args in
+    Touched a.len ((a.m % 8 + a.len + 7) / 8) c.bits_below-below.result
+low c =
+    let a = c.args in
+    let below = c.bits_below-below in
+    touched a.order a.m a.len ((a.m % 8 + a.len + 7) / 8) below.result refl below.ensures.0
+
+pub overflow_sub-v : goal.overflow_sub-v
+overflow_sub-v c = omega (arith, low c)
+
+pub overflow_add-v : goal.overflow_add-v
+overflow_add-v c =
+    let a = c.args in
+    let small : c.wide.result < 256 = omega (arith, c.wide.ensures, c.type_inv.data (a.m / 8 + c.ranked.result)) in
+    record { fits = (joined c.wide.result c.above_lowest.result c.bits_below-below.result a.len small (low c).less (search rules)).fits }
+
+pub returns : goal.returns
+returns c =
+    let a = c.args in
+    let n : ℕ = (a.m % 8 + a.len + 7) / 8 in
+    let high = c.above_lowest in
+    let x = c.wide in
+    let below = c.bits_below-below in
+    let small : x.result < 256 = omega (arith, x.ensures, c.type_inv.data (a.m / 8 + c.ranked.result)) in
+    c.cut.ensures ∙ ap (λ (y : ℕ). y % 2 ^ a.len) (omega arith)
+    ∙ gathers a.«data».now a.order a.m a.len n below.result x.result high.result (search rules) (search rules) refl below.ensures.0 small
+    (x.ensures ∙ ap (λ (k : ℕ). get_or a.«data».now (a.m / 8 + k) 0) c.ranked.ensures.0) high.ensures

@@ -1,0 +1,12 @@
+-- `bits::weight` meets its contract: nothing is shifted out.
+-- Assumes nothing.
+use borrow.Author.Rules.{rules}
+use mathlib.Core.Path.{◌∙◌}
+use native.Mathlib.Nat.{one-mul}
+use native.Mathlib.Omega.{arith}
+use lib.Dec.{lit<}
+use lib.Pow.{shl_exact}
+use Rattle.bits.proofs.weight.Goals as goal
+
+pub returns : goal.returns
+returns c = shl_exact 1 c.args.k 8 (lit< tt) (omega arith) ∙ one-mul _

@@ -1,0 +1,19 @@
+-- `bits::word` meets its contract: eight bytes as one number are the raw number of their 64 bits.
+-- Assumes nothing.
+use mathlib.Core.Path.{refl, sym, ap, ◌∙◌}
+use Prim.Native.Nat.{ℕ}
+use native.Mathlib.Nat.{add-zero}
+use borrow.Author.Rules.{rules}
+use lib.ListN.{get_or}
+use Rattle.bits.specs.Signal.{signal_byte}
+use Rattle.bits.specs.declared.ByteOrder.TheVariants.{LittleEndian}
+use Rattle.bits.proofs.Gathering.{eight_bytes}
+use Rattle.bits.proofs.Theorems.{bytes_are_bits}
+use Rattle.bits.proofs.word.Goals as goal
+
+pub returns : goal.returns
+returns c =
+    let a = c.args in
+    let d = a.«data».now in
+    eight_bytes (signal_byte d LittleEndian a.at 8) c.number_of.ensures (ap (λ (k : ℕ). get_or d k 0) (sym (add-zero a.at))) refl refl refl refl refl refl refl
+    ∙ bytes_are_bits d LittleEndian a.at 8 (λ j. (c.type_inv.data j).fits)

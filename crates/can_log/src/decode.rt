@@ -7,7 +7,7 @@ use conversion::{Condition, SignalDefinition, f32_of_bits};
 use frames::FrameHeader;
 
 // The two bytes in front of a record.
-#[derive(Drop)]
+#[derive(Clone, Copy)]
 pub enum Mark {
     Settings,
     Definition,

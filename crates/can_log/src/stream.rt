@@ -19,7 +19,7 @@ pub struct Log {
     pub engine: SignalIdsEngine,
 }
 
-#[derive(Drop)]
+#[derive(Clone, Copy)]
 pub enum Status {
     // a record was taken, and the next may follow; no call ends so
     Going,

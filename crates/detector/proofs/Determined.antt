@@ -20,7 +20,7 @@ use Rattle.detector.proofs.EwmaDetector.recalibrate.Reads as recalibrate
 use Rattle.detector.proofs.EwmaDetector.mean.Reads as mean
 use Rattle.detector.proofs.EwmaDetector.variance.Reads as variance
 use Rattle.detector.proofs.EwmaDetector.count.Reads as count
-use Rattle.detector.proofs.InPlace as update-in-place
+use Rattle.detector.proofs.update_in_place.Reads as update-in-place
 
 -- ---- the meaning of an answer tells all answers apart
 

@@ -9,7 +9,7 @@ use lib.Dec.{eqb, ltb}
 use lib.Ieee.{Float}
 use lib.Ieee.Scale.{finite}
 use contract.Lifetimes.{Lfts}
-use denote.Ref.{Bor}
+use denote.MutBor.{MutBor}
 use Rattle.detector.specs.declared.EwmaDetector.{EwmaDetector}
 use Rattle.detector.specs.declared.Updated.{Updated}
 use Rattle.detector.specs.declared.Verdict.{Verdict}
@@ -21,7 +21,7 @@ use Rattle.detector.proofs.Told.{chosen, other, or_next}
 use Rattle.detector.proofs.Finite.{zero_finite}
 use Rattle.detector.proofs.Floats.{bad_plus}
 use Rattle.detector.proofs.Samples.{Past, Which, was_ignored, was_first, was_warming, was_past, which, not_finite_ignored, first_sample_lem, warming_folded, past_scored, anomalous, good_mean_stored, bad_mean_not_stored, either_recalibrated, either_reset}
-use Rattle.detector.proofs.InPlace as update-in-place
+use Rattle.detector.proofs.update_in_place.Reads as update-in-place
 use Rattle.detector.proofs.Runs.{MadeBy, Step, Run, run_is, settings_have, step_keeps, run-has}
 use Rattle.detector.proofs.EwmaDetector.update.Reads as update
 
@@ -89,7 +89,7 @@ pub step_keeps_finite : {d e : EwmaDetector} {c : Call} → Step d e c → Finit
 step_keeps_finite = step_keeps FiniteMean after_finite
 
 -- and in its own words of `update_in_place`
-pub lent_keeps_finite : (κs : Lfts 1) (lent : Bor EwmaDetector) (x : Float) (r : Verdict) (s : _)
+pub lent_keeps_finite : (κs : Lfts 1) (lent : MutBor EwmaDetector) (x : Float) (r : Verdict) (s : _)
     → update-in-place.Learnt κs (lent, (x, tt)) r s
     → FiniteMean lent.now
     → FiniteMean s.0.now
@@ -197,7 +197,7 @@ pub update_is_rust : (κs : Lfts 0) (d : EwmaDetector) (x : Float) (r : Updated)
 update_is_rust κs d x r s p f = p ∙ good_step_is_rust d x f
 
 -- and of `update_in_place`, the lent detector and the verdict
-pub lent_is_rust : (κs : Lfts 1) (lent : Bor EwmaDetector) (x : Float) (r : Verdict) (s : _)
+pub lent_is_rust : (κs : Lfts 1) (lent : MutBor EwmaDetector) (x : Float) (r : Verdict) (s : _)
     → update-in-place.Learnt κs (lent, (x, tt)) r s
     → finite (rust_updated lent.now x).detector.mean ≡ true
     → (s.0.now ≡ (rust_updated lent.now x).detector) × (verdict_means r ≡ (rust_updated lent.now x).said)

@@ -6,7 +6,7 @@ use Prim.Native.Nat.{ℕ}
 use lib.Dec.{eqb}
 use lib.Ieee.{Float}
 use contract.Lifetimes.{Lfts}
-use denote.Ref.{Bor}
+use denote.MutBor.{MutBor}
 use Rattle.detector.specs.declared.EwmaDetector.{EwmaDetector}
 use Rattle.detector.specs.declared.Made.TheVariants as made
 use Rattle.detector.specs.declared.Reset.TheVariants as reset
@@ -19,7 +19,7 @@ use Rattle.detector.specs.Ewma as ewma
 use Rattle.detector.specs.Calls.{Call, takes, resets, recalibrates, or_as_it_was, after, ran}
 use Rattle.detector.proofs.Told.{chosen, other}
 use Rattle.detector.proofs.Samples.{Which, was_ignored, was_first, was_warming, was_past, which, not_finite_ignored, first_sample_lem, warming_folded, past_scored, anomalous}
-use Rattle.detector.proofs.InPlace as update-in-place
+use Rattle.detector.proofs.update_in_place.Reads as update-in-place
 use Rattle.detector.proofs.EwmaDetector.new.Reads as new
 use Rattle.detector.proofs.EwmaDetector.with_options.Reads as with-options
 use Rattle.detector.proofs.EwmaDetector.idle.Reads as idle
@@ -38,7 +38,7 @@ pub data MadeBy (d : EwmaDetector) : Type 0 where
 -- a call took the detector d to e
 pub data Step (d e : EwmaDetector) : Call → Type 0 where
   by_update : (κs : Lfts 0) (x : Float) (r : Updated) (s : _) → update.Learnt κs (d, (x, tt)) r s → e ≡ r.detector → Step d e (takes x)
-  by_update_in_place : (κs : Lfts 1) (x : Float) (lent : Bor EwmaDetector) (r : Verdict) (s : _)
+  by_update_in_place : (κs : Lfts 1) (x : Float) (lent : MutBor EwmaDetector) (r : Verdict) (s : _)
       → update-in-place.Learnt κs (lent, (x, tt)) r s
       → lent.now ≡ d
       → e ≡ s.0.now

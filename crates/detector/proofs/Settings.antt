@@ -7,7 +7,7 @@ use native.Mathlib.Omega.{arith}
 use lib.Dec.{eqb}
 use lib.Ieee.{Float}
 use contract.Lifetimes.{Lfts}
-use denote.Ref.{Bor}
+use denote.MutBor.{MutBor}
 use Rattle.detector.specs.declared.EwmaDetector.{EwmaDetector}
 use Rattle.detector.specs.declared.Reset.TheVariants as reset
 use Rattle.detector.specs.declared.Updated.{Updated}
@@ -15,7 +15,7 @@ use Rattle.detector.specs.declared.Verdict.{Verdict}
 use Rattle.detector.specs.Answers.{configured, unconfigured}
 use Rattle.detector.specs.Ewma.{Sampled, updated, folded, held, settled, distance, with_stats, with_duration, reset_of}
 use Rattle.detector.proofs.Samples.{Which, was_ignored, was_first, was_warming, was_past, which, not_finite_ignored, first_sample_lem, warming_folded, past_scored, anomalous, either_fold, either_recalibrated}
-use Rattle.detector.proofs.InPlace as update-in-place
+use Rattle.detector.proofs.update_in_place.Reads as update-in-place
 use Rattle.detector.proofs.EwmaDetector.update.Reads as update
 use Rattle.detector.proofs.EwmaDetector.set_freeze_duration.Reads as set-freeze-duration
 use Rattle.detector.proofs.EwmaDetector.recalibrate.Reads as recalibrate
@@ -56,7 +56,7 @@ updated_keeps d x = go (which d x)
 pub update_keeps_settings : (κs : Lfts 0) (d : EwmaDetector) (x : Float) (r : Updated) (s : _) → update.Learnt κs (d, (x, tt)) r s → SameSettings d r.detector
 update_keeps_settings κs d x r s p = subst (λ (u : Sampled). SameSettings d u.detector) (sym p) (updated_keeps d x)
 
-pub update_in_place_keeps_settings : (κs : Lfts 1) (lent : Bor EwmaDetector) (x : Float) (r : Verdict) (s : _)
+pub update_in_place_keeps_settings : (κs : Lfts 1) (lent : MutBor EwmaDetector) (x : Float) (r : Verdict) (s : _)
     → update-in-place.Learnt κs (lent, (x, tt)) r s
     → SameSettings lent.now s.0.now
 update_in_place_keeps_settings κs lent x r s p = subst (SameSettings lent.now) (sym p.0) (updated_keeps lent.now x)

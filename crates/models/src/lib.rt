@@ -19,7 +19,7 @@ const FULL: u64 = 0xFFFF_FFFF_FFFF_FFFF;
 const HALF: u64 = 0x8000_0000_0000_0000;
 
 // The map of the bytes that were seen, a bit for each: the word of the bytes from 0 on, from 64, from 128 and from 192.
-#[derive(Drop)]
+#[derive(Clone, Copy)]
 pub struct Seen {
     pub from_0: u64,
     pub from_64: u64,

@@ -3,4 +3,4 @@
 use Rattle.models.proofs.saturating.Goals as goal
 
 pub returns : goal.returns
-returns c = cc
+returns c = rw (c.either-2.ensures, c.either.ensures, c.one_more-next.ensures, c.one_more-sum.ensures)

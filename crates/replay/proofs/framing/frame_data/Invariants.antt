@@ -1,7 +1,6 @@
 -- `replay::framing::frame_data` is safe and ends.
 -- Assumes nothing.
-use borrow.Author.Rules.{rules}
-use Prim.Native.Nat.{◌≤◌, ◌-◌}
+use Rattle.std.specs.Prelude.{◌-◌, ◌≤◌}
 use Rattle.replay.proofs.framing.frame_data.Given as goal
 
 abbrev pub invariant-loop-i : goal.invariant-loop-i

@@ -1,8 +1,6 @@
 -- `replay::modelling::summed` is safe and ends.
 -- Assumes nothing.
-use borrow.Author.Rules.{rules}
-use Prim.Native.Nat.{◌≤◌, ◌-◌}
-use lib.ListN.{length}
+use Rattle.std.specs.Prelude.{◌-◌, ◌≤◌, length}
 use Rattle.replay.proofs.modelling.summed.Given as goal
 
 abbrev pub invariant-loop-i : goal.invariant-loop-i

@@ -1,11 +1,6 @@
 -- `replay::script::bytes` is safe and ends.
 -- Assumes nothing.
-use borrow.Author.Rules.{rules}
-use Prim.Native.Nat.{◌≤◌, ◌-◌}
-use mathlib.Core.Path.{◌≡◌, sym}
-use lib.Seq.{length-take-le}
-use native.Mathlib.Omega.{arith}
-use lib.ListN.{length}
+use Rattle.std.specs.Prelude.{◌≡◌, ◌-◌, ◌≤◌, length}
 use Rattle.replay.proofs.script.bytes.Given as goal
 
 abbrev pub invariant-loop-n : goal.invariant-loop-n

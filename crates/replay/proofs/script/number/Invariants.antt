@@ -1,12 +1,10 @@
 -- `replay::script::number` is safe and ends.
 -- Assumes nothing.
-use borrow.Author.Rules.{rules}
-use Prim.Native.Nat.{◌-◌}
-use lib.ListN.{length}
+use Rattle.std.specs.Prelude.{◌-◌, length, ⊤}
 use Rattle.replay.proofs.script.number.Given as goal
 
 abbrev pub invariant-loop-i : goal.invariant-loop-i
-invariant-loop-i l = Unit {0}
+invariant-loop-i l = ⊤
 
 abbrev pub decreases-loop-i : goal.decreases-loop-i
 decreases-loop-i l = length l.s - l.i

@@ -18,7 +18,7 @@ pub enum Mark {
 }
 
 // What a record asks of the table.
-#[derive(Drop)]
+#[derive(Clone, Copy)]
 pub enum Request {
     Settings(f32, f32),
     Define(SignalDefinition),
@@ -26,7 +26,7 @@ pub enum Request {
 }
 
 // What may stand at the front of the bytes.
-#[derive(Drop)]
+#[derive(Clone, Copy)]
 pub enum Item {
     // the bytes at hand are none, or a part of a record
     Wait,

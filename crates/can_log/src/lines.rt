@@ -7,7 +7,7 @@ use frames::SignalAnomaly;
 use table::Answer;
 
 // A line of the output, each with its record's number but the end line, which has the number of sound records.
-#[derive(Drop)]
+#[derive(Clone, Copy)]
 pub enum LogLine {
     Defined(u32, Answer),
     Removed(u32, Answer),
@@ -15,7 +15,7 @@ pub enum LogLine {
     End(u32, u8),
 }
 
-#[derive(Drop)]
+#[derive(Clone, Copy)]
 pub enum Rendered {
     // so many bytes were written
     Length(usize),

@@ -12,7 +12,7 @@ use table::{Answer, Defined, SignalIdsEngine};
 // No record is begun with less room: none prints more than eight lines of at most 55 bytes.
 const ROOM: usize = 512;
 
-#[derive(Drop)]
+#[derive(Clone, Copy)]
 pub struct Log {
     // how many sound records there have been
     pub count: u32,
@@ -31,7 +31,7 @@ pub enum Status {
     Ended,
 }
 
-#[derive(Drop)]
+#[derive(Clone, Copy)]
 pub struct Step {
     pub log: Log,
     // how many bytes were taken

@@ -7,7 +7,7 @@ use Prim.Native.Nat.{ℕ, zero, suc, ◌+◌, ◌-◌, ◌*◌, ◌<◌, ◌≤�
 use native.Mathlib.Omega.{arith}
 use lib.ListN.{length, take, drop, length-append, length-drop}
 use lib.Seq.{length-take-le}
-use lib.IntN.{ℤ, pos, negsuc}
+use Rattle.std.specs.Prelude.{Option, Some, None}
 use borrow.Author.Tests.{ne_eqb}
 use Rattle.can_log.specs.declared.stream.Log.{Log}
 use Rattle.can_log.specs.Output.{Standing}
@@ -65,10 +65,10 @@ module _ {log : Log} {have : ℕ} {ended : Bool} {input out : List ℕ} {r : Sta
 
 -- ---- a read with room brings a byte at least, where it brings any
 
-some : (n : ℕ) (answer : ℤ) → Got.Bytes n ≡ got_of answer → 1 ≤ n
-some n (negsuc k) e = let z : ◌≡◌ {A = ℕ} 0 1 = cc in absurd (omega arith)
-some n (pos zero) e = let z : ◌≡◌ {A = ℕ} 0 1 = cc in absurd (omega arith)
-some n (pos (suc k)) e = let z : n ≡ suc k = cc in omega arith
+some : (n : ℕ) (answer : Option ℕ) → Got.Bytes n ≡ got_of answer → 1 ≤ n
+some n None e = let z : ◌≡◌ {A = ℕ} 0 1 = cc in absurd (omega arith)
+some n (Some zero) e = let z : ◌≡◌ {A = ℕ} 0 1 = cc in absurd (omega arith)
+some n (Some (suc k)) e = let z : n ≡ suc k = cc in omega arith
 
 read_some : {have : ℕ} {buf buf' : List ℕ} (n : ℕ) → Read have buf (Got.Bytes n) buf' → have < length buf → 1 ≤ n
 read_some {have} {buf} n w h = some n w.answer (w.told ∙ rw (ne_eqb have (length buf) (λ z. omega arith)) refl)

@@ -14,8 +14,8 @@ use Rattle.framelog.proofs.Count.{few_turns}
 use Rattle.framelog.proofs.run.Reads as run
 
 -- the buffers have room for a record and for what it prints; the program's have 65,536 bytes
-module _ (κs : Lfts 2) (input out : _) (r : _) (x : _) (w : run.Learnt κs (input, (out, tt)) r x) (space : 72 ≤ length input.now) (room : 512 ≤ length out.now) where
-  abbrev pub ran : Ran input.now out.now x.0.now x.1.0.now
+module _ (κs : Lfts 2) (streams : _) (input out : _) (r : _) (x : _) (w : run.Learnt κs (streams, (input, (out, tt))) r x) (space : 72 ≤ length input.now) (room : 512 ≤ length out.now) where
+  abbrev pub ran : Ran input.now out.now x.1.0.now x.1.1.0.now
   ran = w
 
   -- up to 2 ^ 62 bytes the turns are not used up: the log has stopped, or a read or a write failed

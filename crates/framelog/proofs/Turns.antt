@@ -5,11 +5,9 @@ use mathlib.Core.List.{List}
 use mathlib.Core.Logic.{inl, inr}
 use Prim.Native.Nat.{ℕ, zero, suc, ◌+◌, ◌-◌, ◌≤◌}
 use native.Mathlib.Omega.{arith}
-use lib.IntN.{ℤ, pos, negsuc}
+use Rattle.std.specs.Prelude.{Option, Some, None, IfSome, ◌==◌}
 use lib.ListN.{length, take, drop}
 use lib.Seq.{length-sets, length-take-le}
-use lib.Dec.{eqb}
-use Rattle.libc.specs.Io.{Moved}
 use Rattle.can_log.specs.declared.stream.Log.{Log}
 use Rattle.can_log.specs.declared.stream.Step.{Step}
 use Rattle.can_log.specs.Output.{Move, status_means}
@@ -22,10 +20,10 @@ use Rattle.framelog.proofs.Down.{at_hand}
 
 -- ---- a read
 
-bytes_in : (room n : ℕ) (answer : ℤ) → Moved room answer → Got.Bytes n ≡ got_of answer → n ≤ room
-bytes_in room n (negsuc k) l e = let z : ◌≡◌ {A = ℕ} 0 1 = cc in absurd (omega arith)
-bytes_in room n (pos zero) l e = let z : ◌≡◌ {A = ℕ} 0 1 = cc in absurd (omega arith)
-bytes_in room n (pos (suc k)) l e = let z : n ≡ suc k = cc in omega arith
+bytes_in : (room n : ℕ) (answer : Option ℕ) → IfSome answer (λ k. k ≤ room) → Got.Bytes n ≡ got_of answer → n ≤ room
+bytes_in room n None l e = let z : ◌≡◌ {A = ℕ} 0 1 = cc in absurd (omega arith)
+bytes_in room n (Some zero) l e = let z : ◌≡◌ {A = ℕ} 0 1 = cc in absurd (omega arith)
+bytes_in room n (Some (suc k)) l e = let z : n ≡ suc k = cc in omega arith
 
 module _ {have : ℕ} {buf : List ℕ} {got : Got} {buf' : List ℕ} (w : Read have buf got buf') (h : have ≤ length buf) where
   -- the bytes at hand are within the buffer, and what was read behind them
@@ -33,7 +31,7 @@ module _ {have : ℕ} {buf : List ℕ} {got : Got} {buf' : List ℕ} (w : Read h
   kept_in = omega (arith, w.long)
 
   pub read_in : (n : ℕ) → got ≡ Got.Bytes n → have + n ≤ length buf'
-  read_in n e = go (eqb have (length buf)) w.told
+  read_in n e = go (have == length buf) w.told
     where
       go : (b : Bool) → got ≡ cond b (Got.Bytes 0) (got_of w.answer) → have + n ≤ length buf'
       go true t = let z : n ≡ 0 = cc in omega (arith, w.long)

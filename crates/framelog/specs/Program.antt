@@ -1,9 +1,8 @@
 -- Document 01, "The log": the program, which reads standard input and hands its lines to standard output. What a read brought and whether a write took
 -- its lines is left open; all else of a turn of the program is said.
 -- Assumes nothing.
-use Rattle.std.specs.Prelude.{ℕ, zero, suc, ◌+◌, ◌-◌, ◌≡◌, Bool, true, false, cond, not, ◌&&◌, List, [], ◌∷◌, ◌++◌, ◌⊎◌, ℤ, pos, negsuc, length, take, drop, eqb}
+use Rattle.std.specs.Prelude.{ℕ, zero, suc, ◌+◌, ◌-◌, ◌≡◌, ◌==◌, Bool, true, false, cond, not, ◌&&◌, List, [], ◌∷◌, ◌++◌, ◌⊎◌, ◌≤◌, length, take, drop, Option, Some, None, IfSome}
 use Rattle.std.proofs.lemmas.List.Edits.{sets}
-use Rattle.libc.specs.Io.{Moved}
 use Rattle.can_log.specs.declared.stream.Log.{Log}
 use Rattle.can_log.specs.Output.{Standing, Move, start_of}
 use Rattle.can_log.specs.Pieces.{advance_of, is_ended}
@@ -13,19 +12,19 @@ use Rattle.framelog.specs.declared.State.{State}
 -- ---- a read
 
 -- what the answer of a read says: that it failed, the end of the input, or so many bytes
-abbrev pub got_of : ℤ → Got
-got_of (negsuc n) = Got.Failed
-got_of (pos zero) = Got.End
-got_of (pos (suc n)) = Got.Bytes (suc n)
+abbrev pub got_of : Option ℕ → Got
+got_of None = Got.Failed
+got_of (Some zero) = Got.End
+got_of (Some (suc n)) = Got.Bytes (suc n)
 
 -- one read behind the first `have` bytes of a buffer, which stay. Where there is no room behind them, no call is made
 pub record Read (have : ℕ) (buf : List ℕ) (got : Got) (buf' : List ℕ) : Type 0 where
   pub stay : take have buf' ≡ take have buf
   pub long : length buf' ≡ length buf
-  -- what the call answered: -1, or at most the room
-  pub answer : ℤ
-  pub moved : Moved (length buf - have) answer
-  pub told : got ≡ cond (eqb have (length buf)) (Got.Bytes 0) (got_of answer)
+  -- what the call answered: none where it failed, or how many bytes, at most the room
+  pub answer : Option ℕ
+  pub moved : IfSome answer (λ n. n ≤ length buf - have)
+  pub told : got ≡ cond (have == length buf) (Got.Bytes 0) (got_of answer)
 
 -- ---- a step
 

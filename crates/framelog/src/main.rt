@@ -2,13 +2,23 @@
 #![tactic(auto)]
 
 ghost use Rattle.std.specs.Prelude.{◌≡◌, ◌-◌, ◌≤◌, length, take, drop};
+ghost use Rattle.std.specs.Result.{result_ok};
 ghost use Rattle.std.proofs.lemmas.List.Edits.{sets};
 ghost use Rattle.can_log.specs.Pieces.{Does, advance_of, is_ended};
 ghost use Rattle.can_log.specs.Output.{status_means};
 ghost use Rattle.framelog.specs.Program.{got_of, Read, is_waiting, remaining, failed_of, after_write, Prints, Turn, Ran};
 
 use can_log::{Log, Status, Step};
-use libc::{STDIN_FILENO, STDOUT_FILENO};
+use std::io;
+use std::io::{Read, Stderr, Stdin, Stdout};
+
+// The streams that the program reads from, writes its lines to and tells failures to.
+#[derive(Clone, Copy)]
+struct Streams {
+    input: Stdin,
+    output: Stdout,
+    errors: Stderr,
+}
 
 #[derive(Drop)]
 enum Got {
@@ -53,28 +63,47 @@ fn work(log: Log, have: usize, ended: bool, input: &mut [u8], out: &mut [u8]) ->
     r
 }
 
+// What a call answered, and none where it failed: then a line on standard error says what failed and why.
+fn told<T>(errors: Stderr, what: &str, answer: io::Result<T>) -> Option<T>
+    ensures { result ≡ result_ok answer }
+{
+    match answer {
+        Ok(x) => Some(x),
+        Err(e) => {
+            let _ = eprintln!(errors; "{what}: {e}");
+            None
+        }
+    }
+}
+
 // What the answer of a read says.
-fn got_of(answer: isize) -> Got
+fn got_of(answer: Option<usize>) -> Got
     ensures { result ≡ got_of answer }
 {
-    if answer < 0 {
+    let Some(n) = answer else {
         return Got::Failed;
-    }
-    if answer == 0 {
+    };
+    if n == 0 {
         return Got::End;
     }
-    Got::Bytes(answer as usize)
+    Got::Bytes(n)
 }
 
 // One read behind the bytes at hand. Where there is no room it makes no call.
-fn read_more(input: &mut [u8], have: usize) -> Got
+fn read_more(streams: Streams, input: &mut [u8], have: usize) -> Got
     requires { have ≤ length input.old }
     ensures { Read have input.old result input.new }
 {
     if have == input.len() {
         return Got::Bytes(0);
     }
-    got_of(libc::read(STDIN_FILENO, &mut input[have..]))
+    let mut from = streams.input;
+    let answer = from.read(&mut input[have..]);
+    got_of(told(
+        streams.errors,
+        "framelog: standard input could not be read",
+        answer,
+    ))
 }
 
 fn stopped(log: Log) -> State
@@ -116,7 +145,6 @@ fn after_write(took: bool, log: Log, have: usize, ended: bool, status: Status) -
     ensures { result ≡ after_write took log have ended (status_means status) }
 {
     if !took {
-        os::fail(b"framelog: standard output could not be written");
         return stopped(log);
     }
     State {
@@ -129,7 +157,14 @@ fn after_write(took: bool, log: Log, have: usize, ended: bool, status: Status) -
 }
 
 // The lines of the records at hand go out.
-fn print(log: Log, have: usize, ended: bool, input: &mut [u8], out: &mut [u8]) -> State
+fn print(
+    streams: Streams,
+    log: Log,
+    have: usize,
+    ended: bool,
+    input: &mut [u8],
+    out: &mut [u8],
+) -> State
     requires { have ≤ length input.old }
     ensures { Prints log have ended input.old out.old result input.new out.new }
 {
@@ -138,32 +173,35 @@ fn print(log: Log, have: usize, ended: bool, input: &mut [u8], out: &mut [u8]) -
     let left = have - r.used;
     let next = r.log;
     let status = r.status;
-    let took = io::write_all(STDOUT_FILENO, &out[..end]);
+    let answer = streams.output.write_all(&out[..end]);
+    let took = told(
+        streams.errors,
+        "framelog: standard output could not be written",
+        answer,
+    )
+    .is_some();
     after_write(took, next, left, ended, status)
 }
 
-fn turn(st: State, input: &mut [u8], out: &mut [u8]) -> State
+fn turn(streams: Streams, st: State, input: &mut [u8], out: &mut [u8]) -> State
     requires { st.have ≤ length input.old }
     ensures { Turn st input.old out.old result input.new out.new }
 {
     let log = st.log;
     let have = st.have;
     if st.waiting {
-        match read_more(input, have) {
-            Got::Bytes(n) => print(log, have + n, false, input, out),
-            Got::End => print(log, have, true, input, out),
-            Got::Failed => {
-                os::fail(b"framelog: standard input could not be read");
-                stopped(log)
-            }
+        match read_more(streams, input, have) {
+            Got::Bytes(n) => print(streams, log, have + n, false, input, out),
+            Got::End => print(streams, log, have, true, input, out),
+            Got::Failed => stopped(log),
         }
     } else {
-        print(log, have, st.ended, input, out)
+        print(streams, log, have, st.ended, input, out)
     }
 }
 
 // A proved loop has to end, and nothing says that the input does: the turns are counted down from a number that no run uses up.
-fn run(input: &mut [u8], out: &mut [u8])
+fn run(streams: Streams, input: &mut [u8], out: &mut [u8])
     ensures { Ran input.old out.old input.new out.new }
 {
     let mut st = State {
@@ -178,13 +216,18 @@ fn run(input: &mut [u8], out: &mut [u8])
         if !st.going {
             return;
         }
-        st = turn(st, input, out);
+        st = turn(streams, st, input, out);
         turns -= 1;
     }
 }
 
-fn main() {
-    let mut input = io::large_buffer();
-    let mut out = io::large_buffer();
-    run(&mut input, &mut out);
+fn main(rt: HostRuntime) {
+    let mut input = [0u8; 65536];
+    let mut out = [0u8; 65536];
+    let streams = Streams {
+        input: rt.stdin(),
+        output: rt.stdout(),
+        errors: rt.stderr(),
+    };
+    run(streams, &mut input, &mut out);
 }

@@ -1,4 +1,3 @@
 pub mod Laws
-pub mod InPlace
 pub mod Determined
 pub mod Means

@@ -4,7 +4,7 @@ use mathlib.Core.Path.{sym, subst}
 use Prim.Native.Nat.{ℕ}
 use lib.Ieee.{Float}
 use contract.Lifetimes.{Lfts}
-use denote.Ref.{Bor}
+use denote.MutBor.{MutBor}
 use Rattle.detector.specs.declared.EwmaDetector.{EwmaDetector}
 use Rattle.detector.specs.Answers.{Configured, configured, unconfigured}
 use Rattle.detector.specs.Ewma.{idle, made_of, reset_of}
@@ -13,7 +13,9 @@ use Rattle.detector.proofs.Means.{FiniteMean, after_finite, settings_finite}
 use Rattle.host.specs.declared.MadeDetector.{MadeDetector}
 use Rattle.host.specs.declared.SampleAnswer.{SampleAnswer}
 use Rattle.host.specs.Answers.{handed}
-use Rattle.host.proofs.InPlace.{UpdateLearnt, SetFreezeDurationLearnt, RecalibrateLearnt}
+use Rattle.host.proofs.detector_update.Reads as detector-update
+use Rattle.host.proofs.detector_set_freeze_duration.Reads as detector-set-freeze-duration
+use Rattle.host.proofs.detector_recalibrate.Reads as detector-recalibrate
 use Rattle.host.proofs.detector_new.Reads as detector-new
 use Rattle.host.proofs.detector_with_options.Reads as detector-with-options
 
@@ -34,13 +36,13 @@ detector_with_options_finite κs alpha threshold freeze warmup m s p =
 
 -- ---- lent
 
-module _ (κs : Lfts 1) (lent : Bor EwmaDetector) (was : FiniteMean lent.now) where
-  pub detector_update_keeps_finite : (x : Float) (r : SampleAnswer) (s : _) → UpdateLearnt κs (lent, (x, tt)) r s → FiniteMean s.0.now
+module _ (κs : Lfts 1) (lent : MutBor EwmaDetector) (was : FiniteMean lent.now) where
+  pub detector_update_keeps_finite : (x : Float) (r : SampleAnswer) (s : _) → detector-update.Learnt κs (lent, (x, tt)) r s → FiniteMean s.0.now
   detector_update_keeps_finite x r s p = subst FiniteMean (sym p.0) (after_finite lent.now (takes x) was)
 
-  pub detector_set_freeze_duration_keeps_finite : (k r : ℕ) (s : _) → SetFreezeDurationLearnt κs (lent, (k, tt)) r s → FiniteMean s.0.now
+  pub detector_set_freeze_duration_keeps_finite : (k r : ℕ) (s : _) → detector-set-freeze-duration.Learnt κs (lent, (k, tt)) r s → FiniteMean s.0.now
   detector_set_freeze_duration_keeps_finite k r s p =
       subst FiniteMean (sym p.0) (handed_finite lent.now (reset_of lent.now k) (after_finite lent.now (resets k) was))
 
-  pub detector_recalibrate_keeps_finite : (x : Float) (r : Unit {0}) (s : _) → RecalibrateLearnt κs (lent, (x, tt)) r s → FiniteMean s.0.now
+  pub detector_recalibrate_keeps_finite : (x : Float) (r : Unit {0}) (s : _) → detector-recalibrate.Learnt κs (lent, (x, tt)) r s → FiniteMean s.0.now
   detector_recalibrate_keeps_finite x r s p = subst FiniteMean (sym p) (after_finite lent.now (recalibrates x) was)

@@ -11,7 +11,7 @@ use detector::{EwmaDetector, Made, Reset, Verdict};
 
 // What a sample was: kind 0 ignored, 1 first sample, 2 warming, 3 scored; a score of +0 and no flag where there is none.
 #[repr(C)]
-#[derive(Drop)]
+#[derive(Clone, Copy)]
 pub struct SampleAnswer {
     pub kind: u32,
     pub z_score: f32,
@@ -20,14 +20,14 @@ pub struct SampleAnswer {
 
 // A detector with the settings asked for beside 0, or a refusal's number beside the detector that stands there otherwise.
 #[repr(C)]
-#[derive(Drop)]
+#[derive(Clone, Copy)]
 pub struct MadeDetector {
     pub refusal: u32,
     pub detector: EwmaDetector,
 }
 
 // The detector after a sample, and what the host is told of the sample.
-#[derive(Drop)]
+#[derive(Clone, Copy)]
 struct Answered {
     detector: EwmaDetector,
     answer: SampleAnswer,

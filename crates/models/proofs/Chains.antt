@@ -14,6 +14,7 @@ use lib.ListN.{length, get_or, length-set, length-replicate}
 use lib.Seq.{get_or-set_same, get_or-set_other}
 use lib.Ieee.{Float}
 use contract.Lifetimes.{Lfts}
+use denote.MutBor.{MutBor}
 use denote.Ref.{Bor}
 use Rattle.models.specs.declared.Answer.TheVariants.{Done}
 use Rattle.models.specs.declared.Markov.{Markov}
@@ -41,13 +42,13 @@ pub record Pair : Type 0 where
 -- Calls made the model m and left these transitions and row totals, each lent what the one before it left; these pairs were observed since it was made or last
 -- reset, the last one first. A refused call leaves the model and its counts (Refusals), so it has no place here.
 pub data MadeBy : MarkovDetector → List ℕ → List ℕ → List Pair → Type 0 where
-  by_new : (κs : Lfts 2) (size : ℕ) (cells rows : Bor (List ℕ)) (r : Markov) (s : _) → new.Learnt κs (size, (cells, (rows, tt))) r s → r.answer ≡ Done
+  by_new : (κs : Lfts 2) (size : ℕ) (cells rows : MutBor (List ℕ)) (r : Markov) (s : _) → new.Learnt κs (size, (cells, (rows, tt))) r s → r.answer ≡ Done
       → MadeBy r.model s.1.0.now s.1.1.0.now []
   by_observe : {m : MarkovDetector} {c t : List ℕ} {pairs : List Pair} → MadeBy m c t pairs
-      → (κs : Lfts 2) (cells rows : Bor (List ℕ)) (from to : ℕ) (r : Markov) (s : _) → cells.now ≡ c → rows.now ≡ t
+      → (κs : Lfts 2) (cells rows : MutBor (List ℕ)) (from to : ℕ) (r : Markov) (s : _) → cells.now ≡ c → rows.now ≡ t
       → observe-transition.Learnt κs (m, (cells, (rows, (from, (to, tt))))) r s → MadeBy r.model s.1.0.now s.1.1.0.now (record { from = from; to = to } ∷ pairs)
   by_reset : {m : MarkovDetector} {c t : List ℕ} {pairs : List Pair} → MadeBy m c t pairs
-      → (κs : Lfts 2) (cells rows : Bor (List ℕ)) (r : Markov) (s : _) → cells.now ≡ c → rows.now ≡ t
+      → (κs : Lfts 2) (cells rows : MutBor (List ℕ)) (r : Markov) (s : _) → cells.now ≡ c → rows.now ≡ t
       → reset.Learnt κs (m, (cells, (rows, tt))) r s → MadeBy r.model s.1.0.now s.1.1.0.now []
 
 -- what holds of every such model
@@ -261,7 +262,7 @@ pub not_saturated : {m : MarkovDetector} {c t : List ℕ} {pairs : List Pair} �
 not_saturated made = (sound made).clear
 
 -- and observations leave a saturated model saturated: only a reset ends that
-pub saturated_stays : (κs : Lfts 2) (m : MarkovDetector) (cells rows : Bor (List ℕ)) (from to : ℕ) (r : Markov) (s : _) → m.saturated ≡ true
+pub saturated_stays : (κs : Lfts 2) (m : MarkovDetector) (cells rows : MutBor (List ℕ)) (from to : ℕ) (r : Markov) (s : _) → m.saturated ≡ true
     → observe-transition.Learnt κs (m, (cells, (rows, (from, (to, tt))))) r s → r.model.saturated ≡ true
 saturated_stays κs m cells rows from to r s full h = go (states_fit m.size (length cells.now) (length rows.now)) refl
   where
@@ -292,8 +293,8 @@ score_between {m} {c} {t} made κs cells rows from to r s e f h =
 
 -- ---- and such models there are: of every size, over any counts of those numbers, after any transitions
 
-lend : List ℕ → Bor (List ℕ)
-lend l = record { ref_ptr = (0, 0); now = l }
+lend : List ℕ → MutBor (List ℕ)
+lend l = record { ref_ptr = (0, 0); ghost_name = 0; now = l }
 
 pub there_are : (size : ℕ) (cells rows : List ℕ) → states_fit size (length cells) (length rows) ≡ true → (pairs : List Pair)
     → (m : MarkovDetector) × ((c : List ℕ) × ((t : List ℕ) × (MadeBy m c t pairs × (m.size ≡ size))))

@@ -15,6 +15,7 @@ use lib.ListN.{length, get_or, length-set, length-replicate}
 use lib.Seq.{get_or-set_same, get_or-set_other}
 use lib.Ieee.{Float, nan, inf, fin, lt}
 use contract.Lifetimes.{Lfts}
+use denote.MutBor.{MutBor}
 use denote.Ref.{Bor}
 use Rattle.models.specs.declared.Answer.TheVariants.{Done}
 use Rattle.models.specs.declared.Histogram.{Histogram}
@@ -45,13 +46,13 @@ among v (b ∷ bytes) = eqb v b || among v bytes
 -- Calls made the model m and left these counts, each lent what the one before it left; these bytes were observed since it was made or last reset, the last one
 -- first. A refused call leaves the model and its counts (Refusals), so it has no place here.
 pub data MadeBy : HistogramDetector → List ℕ → List ℕ → Type 0 where
-  by_new : (κs : Lfts 1) (size : ℕ) (lent : Bor (List ℕ)) (r : Histogram) (s : _) → new.Learnt κs (size, (lent, tt)) r s → r.answer ≡ Done
+  by_new : (κs : Lfts 1) (size : ℕ) (lent : MutBor (List ℕ)) (r : Histogram) (s : _) → new.Learnt κs (size, (lent, tt)) r s → r.answer ≡ Done
       → MadeBy r.model s.1.0.now []
   by_observe : {m : HistogramDetector} {counts bytes : List ℕ} → MadeBy m counts bytes
-      → (κs : Lfts 1) (lent : Bor (List ℕ)) (v : ℕ) (r : Histogram) (s : _) → lent.now ≡ counts → v < 256 → observe.Learnt κs (m, (lent, (v, tt))) r s
+      → (κs : Lfts 1) (lent : MutBor (List ℕ)) (v : ℕ) (r : Histogram) (s : _) → lent.now ≡ counts → v < 256 → observe.Learnt κs (m, (lent, (v, tt))) r s
       → MadeBy r.model s.1.0.now (v ∷ bytes)
   by_reset : {m : HistogramDetector} {counts bytes : List ℕ} → MadeBy m counts bytes
-      → (κs : Lfts 1) (lent : Bor (List ℕ)) (r : Histogram) (s : _) → lent.now ≡ counts → reset.Learnt κs (m, (lent, tt)) r s
+      → (κs : Lfts 1) (lent : MutBor (List ℕ)) (r : Histogram) (s : _) → lent.now ≡ counts → reset.Learnt κs (m, (lent, tt)) r s
       → MadeBy r.model s.1.0.now []
 
 -- what holds of every such model
@@ -249,7 +250,7 @@ pub saturated_silent : (κs : Lfts 1) (m : HistogramDetector) (lent : Bor (List 
 saturated_silent κs m lent v threshold r s full p flagged = flags_none m lent.now v threshold r (silent m lent.now v threshold full) p flagged
 
 -- And observations leave it saturated: only a reset ends that.
-pub saturated_stays : (κs : Lfts 1) (m : HistogramDetector) (lent : Bor (List ℕ)) (v : ℕ) (r : Histogram) (s : _) → m.saturated ≡ true
+pub saturated_stays : (κs : Lfts 1) (m : HistogramDetector) (lent : MutBor (List ℕ)) (v : ℕ) (r : Histogram) (s : _) → m.saturated ≡ true
     → observe.Learnt κs (m, (lent, (v, tt))) r s → r.model.saturated ≡ true
 saturated_stays κs m lent v r s full p = go (bins_fit m.size (length lent.now)) refl
   where
@@ -260,7 +261,7 @@ saturated_stays κs m lent v r s full p = go (bins_fit m.size (length lent.now))
 -- Observations one after the other, each with whatever counts were lent to it.
 pub data Observing : HistogramDetector → HistogramDetector → Type 0 where
   ended : (m : HistogramDetector) → Observing m m
-  then : {m z : HistogramDetector} (κs : Lfts 1) (lent : Bor (List ℕ)) (v : ℕ) (r : Histogram) (s : _) → observe.Learnt κs (m, (lent, (v, tt))) r s
+  then : {m z : HistogramDetector} (κs : Lfts 1) (lent : MutBor (List ℕ)) (v : ℕ) (r : Histogram) (s : _) → observe.Learnt κs (m, (lent, (v, tt))) r s
       → Observing r.model z → Observing m z
 
 still_saturated : {m z : HistogramDetector} → Observing m z → m.saturated ≡ true → z.saturated ≡ true
@@ -287,8 +288,8 @@ probability_between {m} {counts} made κs lent v r s same p =
 
 -- ---- and such models there are: of every size, over any counts of that number, after any bytes
 
-lend : List ℕ → Bor (List ℕ)
-lend l = record { ref_ptr = (0, 0); now = l }
+lend : List ℕ → MutBor (List ℕ)
+lend l = record { ref_ptr = (0, 0); ghost_name = 0; now = l }
 
 abbrev pub AllBytes : List ℕ → Type 0
 AllBytes [] = Unit {0}

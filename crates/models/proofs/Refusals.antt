@@ -8,6 +8,7 @@ use native.Mathlib.Omega.{arith}
 use lib.ListN.{length}
 use lib.Ieee.{Float}
 use contract.Lifetimes.{Lfts}
+use denote.MutBor.{MutBor}
 use denote.Ref.{Bor}
 use Rattle.models.specs.declared.Answer.TheVariants as answer
 use Rattle.models.specs.declared.Histogram.{Histogram}
@@ -51,20 +52,20 @@ kept false r c x m n d e done not p h =
     let q = p ∙ not refl in
     record { unfit = refl; model_kept = ap (λ (z : Binned). z.model) q; counts_kept = ap (λ (z : Binned). z.counts) q }
 
-pub observe_keeps : (κs : Lfts 1) (m : HistogramDetector) (lent : Bor (List ℕ)) (v : ℕ) (r : Histogram) (s : _) → observe.Learnt κs (m, (lent, (v, tt))) r s
+pub observe_keeps : (κs : Lfts 1) (m : HistogramDetector) (lent : MutBor (List ℕ)) (v : ℕ) (r : Histogram) (s : _) → observe.Learnt κs (m, (lent, (v, tt))) r s
     → r.answer ≡ answer.Refused → Kept (bins_fit m.size (length lent.now)) r s.1.0.now m lent.now
 observe_keeps κs m lent v r s p h =
     kept (bins_fit m.size (length lent.now)) r s.1.0.now (observed m lent.now v) m (seeing m lent.now v) lent.now (counted lent.now (index_of m.size v))
     (observed_done m lent.now v) (observed_refused m lent.now v) p h
 
-pub reset_keeps : (κs : Lfts 1) (m : HistogramDetector) (lent : Bor (List ℕ)) (r : Histogram) (s : _) → reset.Learnt κs (m, (lent, tt)) r s
+pub reset_keeps : (κs : Lfts 1) (m : HistogramDetector) (lent : MutBor (List ℕ)) (r : Histogram) (s : _) → reset.Learnt κs (m, (lent, tt)) r s
     → r.answer ≡ answer.Refused → Kept (bins_fit m.size (length lent.now)) r s.1.0.now m lent.now
 reset_keeps κs m lent r s p h =
     kept (bins_fit m.size (length lent.now)) r s.1.0.now (reset_bins m lent.now) m (fresh m.size) lent.now (cleared lent.now)
     (reset_done m lent.now) (reset_refused m lent.now) p h
 
 -- a model that is not made is the empty one of the size asked for, which the same counts do not fit either
-pub new_keeps : (κs : Lfts 1) (size : ℕ) (lent : Bor (List ℕ)) (r : Histogram) (s : _) → new.Learnt κs (size, (lent, tt)) r s
+pub new_keeps : (κs : Lfts 1) (size : ℕ) (lent : MutBor (List ℕ)) (r : Histogram) (s : _) → new.Learnt κs (size, (lent, tt)) r s
     → r.answer ≡ answer.Refused → Kept (bins_fit size (length lent.now)) r s.1.0.now (fresh size) lent.now
 new_keeps κs size lent r s p h =
     kept (bins_fit size (length lent.now)) r s.1.0.now (new_bins size lent.now) (fresh size) (fresh size) lent.now (cleared lent.now)
@@ -74,15 +75,15 @@ new_keeps κs size lent r s p h =
 refuses : (r : Histogram) (c : List ℕ) (x : Binned) (m : HistogramDetector) (d : List ℕ) → x ≡ binned 18 m d → histogram_means r c ≡ x → r.answer ≡ answer.Refused
 refuses r c x m d e p = answer_settled r.answer answer.Refused (ap (λ (z : Binned). z.number) (p ∙ e))
 
-pub observe_refuses : (κs : Lfts 1) (m : HistogramDetector) (lent : Bor (List ℕ)) (v : ℕ) (r : Histogram) (s : _) → observe.Learnt κs (m, (lent, (v, tt))) r s
+pub observe_refuses : (κs : Lfts 1) (m : HistogramDetector) (lent : MutBor (List ℕ)) (v : ℕ) (r : Histogram) (s : _) → observe.Learnt κs (m, (lent, (v, tt))) r s
     → bins_fit m.size (length lent.now) ≡ false → r.answer ≡ answer.Refused
 observe_refuses κs m lent v r s p h = refuses r s.1.0.now (observed m lent.now v) m lent.now (observed_refused m lent.now v h) p
 
-pub reset_refuses : (κs : Lfts 1) (m : HistogramDetector) (lent : Bor (List ℕ)) (r : Histogram) (s : _) → reset.Learnt κs (m, (lent, tt)) r s
+pub reset_refuses : (κs : Lfts 1) (m : HistogramDetector) (lent : MutBor (List ℕ)) (r : Histogram) (s : _) → reset.Learnt κs (m, (lent, tt)) r s
     → bins_fit m.size (length lent.now) ≡ false → r.answer ≡ answer.Refused
 reset_refuses κs m lent r s p h = refuses r s.1.0.now (reset_bins m lent.now) m lent.now (reset_refused m lent.now h) p
 
-pub new_refuses : (κs : Lfts 1) (size : ℕ) (lent : Bor (List ℕ)) (r : Histogram) (s : _) → new.Learnt κs (size, (lent, tt)) r s
+pub new_refuses : (κs : Lfts 1) (size : ℕ) (lent : MutBor (List ℕ)) (r : Histogram) (s : _) → new.Learnt κs (size, (lent, tt)) r s
     → bins_fit size (length lent.now) ≡ false → r.answer ≡ answer.Refused
 new_refuses κs size lent r s p h = refuses r s.1.0.now (new_bins size lent.now) (fresh size) lent.now (new_refused size lent.now h) p
 
@@ -101,7 +102,7 @@ both_kept false r c t x y m d u zero done not p h =
     let q = p ∙ not refl in
     record { unfit = refl; model_kept = ap (λ (z : Stated). z.model) q; cells_kept = ap (λ (z : Stated). z.cells) q; rows_kept = ap (λ (z : Stated). z.rows) q }
 
-pub observe_transition_keeps : (κs : Lfts 2) (m : MarkovDetector) (cells rows : Bor (List ℕ)) (from to : ℕ) (r : Markov) (s : _)
+pub observe_transition_keeps : (κs : Lfts 2) (m : MarkovDetector) (cells rows : MutBor (List ℕ)) (from to : ℕ) (r : Markov) (s : _)
     → observe-transition.Learnt κs (m, (cells, (rows, (from, (to, tt))))) r s → r.answer ≡ answer.Refused
     → BothKept (states_fit m.size (length cells.now) (length rows.now)) r s.1.0.now s.1.1.0.now m cells.now rows.now
 observe_transition_keeps κs m cells rows from to r s p h =
@@ -109,14 +110,14 @@ observe_transition_keeps κs m cells rows from to r s p h =
     (stated 0 (moving m cells.now rows.now from to) (counted cells.now (cell_of m.size from to)) (counted rows.now (index_of m.size from))) m cells.now rows.now refl
     (moved_done m cells.now rows.now from to) (moved_refused m cells.now rows.now from to) p h
 
-pub states_reset_keeps : (κs : Lfts 2) (m : MarkovDetector) (cells rows : Bor (List ℕ)) (r : Markov) (s : _) → restated.Learnt κs (m, (cells, (rows, tt))) r s
+pub states_reset_keeps : (κs : Lfts 2) (m : MarkovDetector) (cells rows : MutBor (List ℕ)) (r : Markov) (s : _) → restated.Learnt κs (m, (cells, (rows, tt))) r s
     → r.answer ≡ answer.Refused → BothKept (states_fit m.size (length cells.now) (length rows.now)) r s.1.0.now s.1.1.0.now m cells.now rows.now
 states_reset_keeps κs m cells rows r s p h =
     both_kept (states_fit m.size (length cells.now) (length rows.now)) r s.1.0.now s.1.1.0.now (reset_states m cells.now rows.now)
     (stated 0 (fresh_states m.size) (cleared cells.now) (cleared rows.now)) m cells.now rows.now refl
     (states_reset m cells.now rows.now) (states_kept m cells.now rows.now) p h
 
-pub states_new_keeps : (κs : Lfts 2) (size : ℕ) (cells rows : Bor (List ℕ)) (r : Markov) (s : _) → states.Learnt κs (size, (cells, (rows, tt))) r s
+pub states_new_keeps : (κs : Lfts 2) (size : ℕ) (cells rows : MutBor (List ℕ)) (r : Markov) (s : _) → states.Learnt κs (size, (cells, (rows, tt))) r s
     → r.answer ≡ answer.Refused → BothKept (states_fit size (length cells.now) (length rows.now)) r s.1.0.now s.1.1.0.now (fresh_states size) cells.now rows.now
 states_new_keeps κs size cells rows r s p h =
     both_kept (states_fit size (length cells.now) (length rows.now)) r s.1.0.now s.1.1.0.now (new_states size cells.now rows.now)
@@ -126,17 +127,17 @@ states_new_keeps κs size cells rows r s p h =
 both_refuse : (r : Markov) (c t : List ℕ) (x : Stated) (m : MarkovDetector) (d u : List ℕ) → x ≡ stated 18 m d u → markov_means r c t ≡ x → r.answer ≡ answer.Refused
 both_refuse r c t x m d u e p = answer_settled r.answer answer.Refused (ap (λ (z : Stated). z.number) (p ∙ e))
 
-pub observe_transition_refuses : (κs : Lfts 2) (m : MarkovDetector) (cells rows : Bor (List ℕ)) (from to : ℕ) (r : Markov) (s : _)
+pub observe_transition_refuses : (κs : Lfts 2) (m : MarkovDetector) (cells rows : MutBor (List ℕ)) (from to : ℕ) (r : Markov) (s : _)
     → observe-transition.Learnt κs (m, (cells, (rows, (from, (to, tt))))) r s → states_fit m.size (length cells.now) (length rows.now) ≡ false → r.answer ≡ answer.Refused
 observe_transition_refuses κs m cells rows from to r s p h =
     both_refuse r s.1.0.now s.1.1.0.now (moved m cells.now rows.now from to) m cells.now rows.now (moved_refused m cells.now rows.now from to h) p
 
-pub states_reset_refuses : (κs : Lfts 2) (m : MarkovDetector) (cells rows : Bor (List ℕ)) (r : Markov) (s : _) → restated.Learnt κs (m, (cells, (rows, tt))) r s
+pub states_reset_refuses : (κs : Lfts 2) (m : MarkovDetector) (cells rows : MutBor (List ℕ)) (r : Markov) (s : _) → restated.Learnt κs (m, (cells, (rows, tt))) r s
     → states_fit m.size (length cells.now) (length rows.now) ≡ false → r.answer ≡ answer.Refused
 states_reset_refuses κs m cells rows r s p h =
     both_refuse r s.1.0.now s.1.1.0.now (reset_states m cells.now rows.now) m cells.now rows.now (states_kept m cells.now rows.now h) p
 
-pub states_new_refuses : (κs : Lfts 2) (size : ℕ) (cells rows : Bor (List ℕ)) (r : Markov) (s : _) → states.Learnt κs (size, (cells, (rows, tt))) r s
+pub states_new_refuses : (κs : Lfts 2) (size : ℕ) (cells rows : MutBor (List ℕ)) (r : Markov) (s : _) → states.Learnt κs (size, (cells, (rows, tt))) r s
     → states_fit size (length cells.now) (length rows.now) ≡ false → r.answer ≡ answer.Refused
 states_new_refuses κs size cells rows r s p h =
     both_refuse r s.1.0.now s.1.1.0.now (new_states size cells.now rows.now) (fresh_states size) cells.now rows.now (states_not size cells.now rows.now h) p

@@ -19,7 +19,7 @@ const FULL: u64 = 0xFFFF_FFFF_FFFF_FFFF;
 const HALF: u64 = 0x8000_0000_0000_0000;
 
 // The map of the bytes that were seen, a bit for each: the word of the bytes from 0 on, from 64, from 128 and from 192.
-#[derive(Drop)]
+#[derive(Clone, Copy)]
 pub struct Seen {
     pub from_0: u64,
     pub from_64: u64,
@@ -28,7 +28,7 @@ pub struct Seen {
 }
 
 // How often bytes came: the number of bins, the number of observations, the bytes that were seen, and whether an observation left a count or the total full.
-#[derive(Drop)]
+#[derive(Clone, Copy)]
 pub struct HistogramDetector {
     pub size: usize,
     pub total: u64,
@@ -37,42 +37,42 @@ pub struct HistogramDetector {
 }
 
 // How often a state came after another: the number of states, and whether an observation left a count full.
-#[derive(Drop)]
+#[derive(Clone, Copy)]
 pub struct MarkovDetector {
     pub size: usize,
     pub saturated: bool,
 }
 
 // What a call that changes a model answers: it was done, or refusal 18.
-#[derive(Drop)]
+#[derive(Clone, Copy)]
 pub enum Answer {
     Done,
     Refused,
 }
 
 // What a call that changes a histogram returns: its answer, and the model after it.
-#[derive(Drop)]
+#[derive(Clone, Copy)]
 pub struct Histogram {
     pub answer: Answer,
     pub model: HistogramDetector,
 }
 
 // What a call that changes a Markov model returns: its answer, and the model after it.
-#[derive(Drop)]
+#[derive(Clone, Copy)]
 pub struct Markov {
     pub answer: Answer,
     pub model: MarkovDetector,
 }
 
 // What a call that asks how probable something is answers: the ratio, or refusal 18.
-#[derive(Drop)]
+#[derive(Clone, Copy)]
 pub enum Probability {
     Ratio(f32),
     Refused,
 }
 
 // What `is_anomalous` answers: yes, no, or refusal 18.
-#[derive(Drop)]
+#[derive(Clone, Copy)]
 pub enum Judgement {
     Anomalous,
     Usual,
@@ -80,7 +80,7 @@ pub enum Judgement {
 }
 
 // A count and the total that it is part of, each with one more, and the flag then, which is set where one of them is full.
-#[derive(Drop)]
+#[derive(Clone, Copy)]
 struct Grown {
     count: u64,
     total: u64,

@@ -7,7 +7,7 @@ use crate::show::{put_byte, put_field, put_longs};
 use models::{Markov, MarkovDetector};
 
 // The model after a call, and the place behind what was written.
-#[derive(Drop)]
+#[derive(Clone, Copy)]
 pub struct Chained {
     pub model: MarkovDetector,
     pub at: usize,

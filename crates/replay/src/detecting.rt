@@ -5,7 +5,7 @@ use conversion::bits_of_f32;
 use detector::{EwmaDetector, Made, Reset, Updated, Verdict, update_in_place};
 
 // The detector, if there is one, and the place behind what was written.
-#[derive(Drop)]
+#[derive(Clone, Copy)]
 pub struct Kept {
     pub detector: EwmaDetector,
     pub made: bool,

@@ -7,7 +7,7 @@ use detector::EwmaDetector;
 use table::{Answer, Defined, Signal, SignalIdsEngine};
 
 // The engine, if there is one, and the place behind what was written.
-#[derive(Drop)]
+#[derive(Clone, Copy)]
 pub struct Told {
     pub engine: SignalIdsEngine,
     pub made: bool,

@@ -118,7 +118,7 @@ fn frame_data(data: &[u8]) -> [u8; 64] {
 }
 
 // A frame's identifier, flags and length, its flags as those of a log's record and bit 2 for FD, and the place behind them.
-#[derive(Drop)]
+#[derive(Clone, Copy)]
 struct HeaderRead {
     header: FrameHeader,
     next: usize,

@@ -16,12 +16,12 @@ mod show;
 ghost use Rattle.std.specs.Prelude.{◌≤◌, length};
 
 use detector::EwmaDetector;
-use libc::{STDIN_FILENO, STDOUT_FILENO};
 use models::{HistogramDetector, MarkovDetector};
+use std::io::{Read, Stdin};
 use table::SignalIdsEngine;
 
 // What the calls of a script act on, and how much of the output buffer is in use.
-#[derive(Drop)]
+#[derive(Clone, Copy)]
 struct Machine {
     detector: EwmaDetector,
     has_detector: bool,
@@ -109,25 +109,26 @@ fn answered(
 }
 
 // The first bytes of the buffer go out.
-fn sent(out: &[u8], at: usize) -> bool {
+fn sent(rt: &impl Print, out: &[u8], at: usize) -> bool {
     if out.len() < at {
         return false;
     }
-    io::write_all(STDOUT_FILENO, &out[..at])
+    rt.write_all(&out[..at]).is_ok()
 }
 
 // What was written goes out where the buffer is half full.
-fn flushed(m: Machine, room: usize, out: &[u8]) -> Machine {
+fn flushed(rt: &impl Print, m: Machine, room: usize, out: &[u8]) -> Machine {
     if m.at < room {
         return m;
     }
-    sent(out, m.at);
+    sent(rt, out, m.at);
     let mut next = m;
     next.at = 0;
     next
 }
 
 fn line(
+    rt: &impl Print,
     m: Machine,
     s: &[u8],
     data: &mut [u8],
@@ -140,7 +141,7 @@ fn line(
         return m;
     }
     let next = answered(m, s[0], s, data, bins, transition, row_totals, out);
-    flushed(next, 32768, out)
+    flushed(rt, next, 32768, out)
 }
 
 // The place of the next line feed in the first `n` bytes from a place on, or `n`.
@@ -159,7 +160,7 @@ fn line_end(s: &[u8], at: usize, n: usize) -> usize
 }
 
 // What a run over the lines at hand leaves: the machine, and how many bytes were whole lines.
-#[derive(Drop)]
+#[derive(Clone, Copy)]
 struct Done {
     machine: Machine,
     used: usize,
@@ -167,6 +168,7 @@ struct Done {
 
 // Every whole line in the first `n` bytes, and the last one without its end where the input has ended.
 fn lines(
+    rt: &impl Print,
     m: Machine,
     s: &[u8],
     n: usize,
@@ -187,6 +189,7 @@ fn lines(
         if end == n {
             if last {
                 machine = line(
+                    rt,
                     machine,
                     &s[at..end],
                     data,
@@ -200,6 +203,7 @@ fn lines(
         }
         let next = end + 1;
         machine = line(
+            rt,
             machine,
             &s[at..end],
             data,
@@ -228,15 +232,31 @@ fn move_down(buf: &mut [u8], from: usize, to: usize) -> usize
 }
 
 // What is carried from one read to the next: the machine, and how many bytes at the front are no whole line yet.
-#[derive(Drop)]
+#[derive(Clone, Copy)]
 struct State {
     machine: Machine,
     have: usize,
     going: bool,
 }
 
+// Reads until the buffer is full, the input ends or a read fails, and answers how many bytes stand at its front.
+fn read_full(mut stdin: Stdin, buf: &mut [u8]) -> usize
+    ensures { result ≤ length buf.new }
+{
+    let mut done = 0;
+    while done < buf.len() {
+        match stdin.read(&mut buf[done..]) {
+            Ok(n) if n > 0 => done += n,
+            _ => return done,
+        }
+    }
+    done
+}
+
 // One read, and the lines that are whole then. A line longer than the buffer ends the run.
 fn turn(
+    rt: &impl Print,
+    stdin: Stdin,
     st: State,
     input: &mut [u8],
     data: &mut [u8],
@@ -250,9 +270,10 @@ fn turn(
 {
     let have = st.have;
     let machine = st.machine;
-    let got = io::read_full(STDIN_FILENO, &mut input[have..]);
+    let got = read_full(stdin, &mut input[have..]);
     let n = have + got;
     let done = lines(
+        rt,
         machine,
         input,
         n,
@@ -275,6 +296,8 @@ fn turn(
 
 // A proved loop has to end, and nothing says that the input does: the turns are counted down from a number that no run uses up.
 fn run(
+    rt: &impl Print,
+    stdin: Stdin,
     input: &mut [u8],
     data: &mut [u8],
     bins: &mut [u64],
@@ -301,22 +324,26 @@ fn run(
     while turns > 0 {
         if !st.going {
             let machine = st.machine;
-            flushed(machine, 0, out);
+            flushed(rt, machine, 0, out);
             return;
         }
-        st = turn(st, input, data, bins, transition, row_totals, out);
+        st = turn(
+            rt, stdin, st, input, data, bins, transition, row_totals, out,
+        );
         turns -= 1;
     }
 }
 
-fn main() {
-    let mut input = io::large_buffer();
-    let mut data = io::buffer();
+fn main(rt: HostRuntime) {
+    let mut input = [0u8; 65536];
+    let mut data = [0u8; 4096];
     let mut bins = modelling::bins();
     let mut transition = chaining::transitions();
     let mut row_totals = chaining::rows();
-    let mut out = io::large_buffer();
+    let mut out = [0u8; 65536];
     run(
+        &rt,
+        rt.stdin(),
         &mut input,
         &mut data,
         &mut bins,

@@ -7,7 +7,7 @@ use crate::show::{put_byte, put_field, put_float, put_longs, put_refused, put_te
 use models::{Answer, Histogram, HistogramDetector, Judgement, Probability, Seen};
 
 // The model after a call, and the place behind what was written.
-#[derive(Drop)]
+#[derive(Clone, Copy)]
 pub struct Binned {
     pub model: HistogramDetector,
     pub at: usize,

@@ -6,14 +6,14 @@ use bits::ByteOrder;
 use conversion::{Condition, SignalDefinition, f32_of_bits};
 
 // A number, and where the next field starts.
-#[derive(Drop)]
+#[derive(Clone, Copy)]
 pub struct Field {
     pub value: u64,
     pub next: usize,
 }
 
 // A definition, and where the next field starts.
-#[derive(Drop)]
+#[derive(Clone, Copy)]
 pub struct Defining {
     pub definition: SignalDefinition,
     pub next: usize,

@@ -543,10 +543,10 @@ fn main() {
         eprintln!("{USAGE}");
         exit(2);
     };
-    let bin = Path::new(env!("CARGO_MANIFEST_DIR")).join("../../target/bin");
+    let crates = Path::new(env!("CARGO_MANIFEST_DIR")).join("../../crates");
     let scratch = std::env::temp_dir().join(format!("compare-{}", std::process::id()));
     let pack = asked.pack.map(|file| BufWriter::new(File::create(file).expect("the pack is made")));
-    let program = |name| Program::new(&asked.emulator, &bin.join(name));
+    let program = |name| Program::new(&asked.emulator, &crates.join(name).join("out").join(name));
     let mut b = Bench { replay: program("replay"), framelog: program("framelog"), scratch, pack, calls: 0, records: 0, logs: 0, isolated: 0, lent: 0, by_samples: 0, before_rounds: [0; 3], in_calls: Counted::default(), in_logs: Counted::default(), reasons: Reasons::default(), models: models::Seen::default() };
     let since = Instant::now();
     let mut said = since;

@@ -1,0 +1,11 @@
+-- `can_log::lines::digit` meets its contract.
+-- Assumes nothing.
+use borrow.Author.Tests.{lt-ltb, le-ltb}
+use borrow.Author.Rules.{rules}
+use Rattle.can_log.proofs.lines.digit.Goals as goal
+
+pub returns-then-d-lt10 : goal.returns-then-d-lt10
+returns-then-d-lt10 c = simp (lt-ltb _ _ c.if-d-lt10.true)
+
+pub returns : goal.returns
+returns c = simp (le-ltb _ _ c.if-d-lt10.false)

@@ -1,0 +1,15 @@
+-- `can_log::lines::put_anomalies` meets its contract.
+-- Assumes nothing.
+use Rattle.can_log.proofs.Texts.{then, named, nothing, next_line, lines-length}
+use mathlib.Core.Path.{◌≡◌, refl, ap}
+use Prim.Native.Nat.{ℕ, ◌≤◌, ◌-◌}
+use native.Mathlib.Omega.{arith}
+use lib.ListN.{length, take, length-take}
+use Rattle.can_log.specs.Lines.{Put, anomaly_lines}
+use Rattle.can_log.proofs.lines.put_anomalies.Given as goal
+
+abbrev pub invariant-loop-i : goal.invariant-loop-i
+invariant-loop-i l = (l.i ≤ l.count) × (length l.out ≡ length l.initial.out) × Put l.initial.out l.at (anomaly_lines l.n (take l.i l.list)) l.end l.out
+
+abbrev pub decreases-loop-i : goal.decreases-loop-i
+decreases-loop-i l = l.count - l.i

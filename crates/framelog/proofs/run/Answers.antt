@@ -1,0 +1,20 @@
+-- `framelog::run` meets its contract: the state at the loop's head was reached by turns from the beginning.
+-- Assumes nothing.
+use native.Mathlib.Omega.{arith}
+use mathlib.Core.Path.{ap}
+use mathlib.Core.Bool.{true, false}
+use borrow.Author.Tests.{not-false}
+use Rattle.can_log.specs.declared.stream.Log.{Log}
+use Rattle.framelog.specs.declared.State.{State}
+use Rattle.framelog.proofs.Turns.{at_first, next_turn}
+use Rattle.framelog.proofs.run.Goals as goal
+
+-- the state before the first turn
+abbrev before : Log → State
+before log = record { log = log; have = 0; ended = false; waiting = true; going = true }
+
+pub loop-turns-init : goal.loop-turns-init
+loop-turns-init c = at_first (ap before c.start.ensures)
+
+pub loop-turns-preserved : goal.loop-turns-preserved
+loop-turns-preserved c = next_turn c.loop-turns.invariant (not-false _ c.if-not-st.false) (omega arith) c.turn-st.ensures

@@ -1,0 +1,10 @@
+-- `replay::framing::frame_data` is safe and ends.
+-- Assumes nothing.
+use Rattle.std.specs.Prelude.{◌-◌, ◌≤◌}
+use Rattle.replay.proofs.framing.frame_data.Given as goal
+
+abbrev pub invariant-loop-i : goal.invariant-loop-i
+invariant-loop-i l = l.i ≤ 64
+
+abbrev pub decreases-loop-i : goal.decreases-loop-i
+decreases-loop-i l = 64 - l.i

@@ -1,0 +1,7 @@
+-- `table::empty` meets its contract. Assumes nothing.
+use Rattle.table.proofs.Columns.{empty_is}
+use borrow.Author.Rules.{rules}
+use Rattle.table.proofs.empty.Goals as goal
+
+pub returns : goal.returns
+returns c = empty_is c.args.fresh c.blank_signal-b.result c.blank_signal-b.ensures

@@ -1,0 +1,11 @@
+-- `table::sign_ok` meets its contract. Assumes nothing.
+use Rattle.table.specs.Table.{sign_ok}
+use Rattle.table.proofs.sign_ok.Goals as goal
+
+pub returns-then-d : goal.returns-then-d
+unfolding sign_ok
+returns-then-d c = rw c.if-d.true
+
+pub returns-else-d : goal.returns-else-d
+unfolding sign_ok
+returns-else-d c = rw c.if-d.false

@@ -3,8 +3,6 @@
 use mathlib.Core.Path.{sym, ap, ◌∙◌}
 use Prim.Native.Nat.{ℕ}
 use native.Mathlib.Omega.{arith}
-use borrow.Author.Rules.{rules}
-use lib.ListN.{length}
 use Rattle.bits.specs.Answers.{place_of, read_at}
 use Rattle.bits.specs.Answers.Answer.{value}
 use Rattle.bits.proofs.Theorems.{stands}

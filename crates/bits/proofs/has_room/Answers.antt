@@ -1,6 +1,5 @@
 -- `bits::has_room` meets its contract: a shift by the length leaves nothing.
 -- Assumes nothing.
-use borrow.Author.Rules.{rules}
 use mathlib.Core.Path.{sym}
 use native.Mathlib.Nat.{lt_of_lt_of_le}
 use borrow.Author.Tests.{lt-ltb}

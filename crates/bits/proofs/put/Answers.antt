@@ -1,6 +1,5 @@
 -- `bits::put` meets its contract: the byte is the callee's.
 -- Assumes nothing.
-use borrow.Author.Rules.{rules}
 use mathlib.Core.Path.{ap}
 use Prim.Native.Nat.{◌/◌}
 use lib.ListN.{set}

@@ -1,14 +1,9 @@
 -- `bits::store` meets its contract: the invariant: the bits below i are stored, every other is as it was; all are bytes.
 -- Assumes nothing.
-use borrow.Author.Rules.{rules}
-use mathlib.Core.Path.{◌≡◌, refl, ap, ◌∙◌}
-use Prim.Native.Nat.{ℕ, ◌+◌, ◌-◌, ◌*◌, ◌≤◌, ◌<◌}
-use native.Mathlib.Omega.{arith}
-use mathlib.Core.List.{List}
+use mathlib.Core.Path.{◌≡◌}
+use Prim.Native.Nat.{ℕ, ◌-◌, ◌≤◌, ◌<◌}
 use lib.ListN.{length, get_or}
-use Rattle.bits.specs.Signal.{bit_at, turn, place, value, new_bit, tab, stored}
-use Rattle.bits.proofs.Laws.{place_in}
-use Rattle.bits.proofs.Storing.{store_step, bytes_ext}
+use Rattle.bits.specs.Signal.{bit_at, new_bit}
 use Rattle.bits.proofs.store.Given as goal
 
 abbrev pub invariant-loop-i : goal.invariant-loop-i

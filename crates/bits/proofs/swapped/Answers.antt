@@ -1,7 +1,6 @@
 -- `bits::swapped` meets its contract: each byte stands where the definition has it.
 -- Assumes nothing.
 use Prim.Native.Nat.{◌*◌, ◌/◌, ◌%◌, ◌^◌}
-use borrow.Author.Rules.{rules}
 use Rattle.bits.specs.Signal.{rank}
 use Rattle.bits.specs.declared.ByteOrder.TheVariants.{BigEndian}
 use Rattle.bits.proofs.Gathering.{eight_bytes}

@@ -1,5 +1,5 @@
 -- `conversion::converted` meets its contract: each case is a callee's. Assumes nothing.
-use Rattle.std.proofs.Common.{Bool, sym, ap, ◌∙◌, rules}
+use Rattle.std.proofs.Common.{Bool, sym, ap, ◌∙◌}
 use lib.Ieee.{binary32, of_int}
 use Rattle.conversion.specs.Whole.{whole_of}
 use Rattle.conversion.proofs.converted.Goals as goal

@@ -1,5 +1,5 @@
 -- `conversion::extract_signal` meets its contract, by the cases of `proofs/Extracting.antt`. Assumes nothing.
-use Rattle.std.proofs.Common.{refl, ◌∙◌, rules}
+use Rattle.std.proofs.Common.{refl, ◌∙◌}
 use Rattle.conversion.proofs.Extracting.{no_raw, fits, from_raw}
 use Rattle.conversion.proofs.extract_signal.Goals as goal
 

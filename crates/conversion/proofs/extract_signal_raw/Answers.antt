@@ -1,5 +1,4 @@
 -- `conversion::extract_signal_raw` meets its contract: the answer is that of `bits`. Assumes nothing.
-use Rattle.std.proofs.Common.{rules}
 use Rattle.conversion.specs.Extract.{raw_signal}
 use Rattle.conversion.proofs.extract_signal_raw.Goals as goal
 

@@ -1,5 +1,5 @@
 -- `conversion::finite_only` meets its contract. Assumes nothing.
-use Rattle.std.proofs.Common.{Bool, cond, sym, ap, ◌∙◌, rules}
+use Rattle.std.proofs.Common.{Bool, cond, sym, ap, ◌∙◌}
 use Rattle.conversion.specs.Extract.{measured, unmeasured}
 use Rattle.conversion.proofs.finite_only.Goals as goal
 

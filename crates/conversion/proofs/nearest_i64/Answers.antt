@@ -1,6 +1,6 @@
 -- `conversion::nearest_i64` meets its contract, by what std proves of its own `nearest_i64_to_f64`: of an n that is not negative that it can be cast, and of a negative n
 -- that each step to its magnitude is defined, and that the float of its magnitude, negated, is the float of n. Assumes nothing.
-use Rattle.std.proofs.Common.{ℤ, ap, ◌∙◌, lit≤, w64, rules}
+use Rattle.std.proofs.Common.{ℤ, ap, ◌∙◌, lit≤, w64}
 use lib.Ieee.{binary32, neg, of_int}
 use Rattle.std.proofs.num.Nearest.{Plain, Turned, plain, turn}
 use Rattle.conversion.proofs.nearest_i64.Goals as goal

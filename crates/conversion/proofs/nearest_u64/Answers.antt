@@ -1,5 +1,5 @@
 -- `conversion::nearest_u64` meets its contract: `proofs/Whole.antt` says of a number shifted up by its leading zeros that the pattern is the nearest f32's. Assumes nothing.
-use Rattle.std.proofs.Common.{◌≡◌, ℕ, ◌+◌, ◌-◌, ◌*◌, ◌%◌, ◌^◌, ◌≤◌, pos, sym, ap, ◌∙◌, le_trans, le_of_eq, mod-eq_of_lt, arith, rules}
+use Rattle.std.proofs.Common.{◌≡◌, ℕ, ◌+◌, ◌-◌, ◌*◌, ◌%◌, ◌^◌, ◌≤◌, pos, sym, ap, ◌∙◌, le_trans, le_of_eq, mod-eq_of_lt, arith}
 use lib.Count.{count_leading_zeros}
 use lib.Ieee.{binary32, of_bits, of_int}
 use lib.Ieee.Nearest.{closest}

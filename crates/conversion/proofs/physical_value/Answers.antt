@@ -1,5 +1,5 @@
 -- `conversion::physical_value` meets its contract: the sum is the definition's, since the converted number is. Assumes nothing.
-use Rattle.std.proofs.Common.{ap, rules}
+use Rattle.std.proofs.Common.{ap}
 use lib.Ieee.{Float, binary32, mul, add}
 use Rattle.conversion.proofs.physical_value.Goals as goal
 

@@ -1,5 +1,5 @@
 -- `conversion::signed_value` meets its contract, by `proofs/Signed.antt`. Assumes nothing.
-use Rattle.std.proofs.Common.{ℕ, ◌-◌, ◌<◌, ◌≤◌, pos, sym, ap, ◌∙◌, subst, rules}
+use Rattle.std.proofs.Common.{ℕ, ◌-◌, ◌<◌, ◌≤◌, pos, sym, ap, ◌∙◌, subst}
 use lib.Ieee.{binary32, neg, of_int}
 use Rattle.conversion.proofs.Signed.{half, low_is, rest_le, high_float}
 use Rattle.conversion.proofs.signed_value.Goals as goal

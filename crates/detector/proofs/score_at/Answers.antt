@@ -1,5 +1,4 @@
 -- `detector::score_at` meets its contract. Each arm returns what the tests on the way to it pick. Assumes nothing.
-use borrow.Author.Rules.{rules}
 use Rattle.detector.proofs.Told.{told}
 use Rattle.detector.specs.Ewma.{score_at}
 use Rattle.detector.proofs.score_at.Goals as goal

@@ -1,9 +1,8 @@
 -- `detector::sqrt_approx` meets its contract. Past the two tests x is above zero and no NaN, so its pattern has the sign bit clear; half of it and the constant neither wrap nor are a NaN pattern. Assumes nothing.
-use borrow.Author.Rules.{rules}
 use mathlib.Core.Path.{sym, ap, ◌∙◌, subst}
 use Prim.Native.Nat.{◌<◌}
 use lib.Dec.{T}
-use lib.Ieee.{Float, binary32, fits, to_bits}
+use lib.Ieee.{Float, binary32, to_bits}
 use Rattle.detector.proofs.Floats.{is_nan_lem, no_nan, sign_clear, seed_fits, seed_no_nan}
 use Rattle.detector.proofs.Sqrt.{sqrt_of_nan}
 use Rattle.detector.specs.Ewma.{newton, sqrt_approx}

@@ -1,6 +1,5 @@
 -- `detector::EwmaDetector::floor` meets its contract. Assumes nothing.
 use mathlib.Core.Path.{sym, ◌∙◌}
-use borrow.Author.Rules.{rules}
 use Rattle.detector.specs.Ewma.{floor_of}
 use Rattle.detector.proofs.EwmaDetector.floor.Goals as goal
 

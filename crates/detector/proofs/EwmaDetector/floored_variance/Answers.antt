@@ -1,6 +1,5 @@
 -- `detector::EwmaDetector::floored_variance` meets its contract. Assumes nothing.
 use mathlib.Core.Path.{sym, ◌∙◌}
-use borrow.Author.Rules.{rules}
 use Rattle.detector.specs.Ewma.{floored_variance}
 use Rattle.detector.proofs.EwmaDetector.floored_variance.Goals as goal
 

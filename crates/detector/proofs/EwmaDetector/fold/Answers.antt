@@ -1,6 +1,5 @@
 -- `detector::EwmaDetector::fold` meets its contract: a new mean is stored where it is finite, as the Rust does it, and else only the count rises.
 -- Assumes nothing.
-use borrow.Author.Rules.{rules}
 use mathlib.Core.Path.{sym, ap, ◌∙◌}
 use Rattle.detector.specs.Ewma.{with_stats}
 use Rattle.detector.proofs.Samples.{bad_mean_not_stored, good_mean_stored}

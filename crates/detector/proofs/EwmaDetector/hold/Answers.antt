@@ -3,7 +3,6 @@ use mathlib.Core.Path.{ap, ◌∙◌}
 use mathlib.Core.Bool.{not}
 use Prim.Native.Nat.{ℕ, ◌-◌}
 use lib.Dec.{eqb}
-use borrow.Author.Rules.{rules}
 use Rattle.detector.specs.Ewma.{with_freeze, held}
 use Rattle.detector.proofs.EwmaDetector.hold.Goals as goal
 

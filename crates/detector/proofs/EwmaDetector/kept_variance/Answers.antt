@@ -1,6 +1,5 @@
 -- `detector::EwmaDetector::kept_variance` meets its contract. Assumes nothing.
 use mathlib.Core.Path.{sym, ◌∙◌}
-use borrow.Author.Rules.{rules}
 use Rattle.detector.proofs.EwmaDetector.kept_variance.Goals as goal
 
 pub returns-then-not-is_finite : goal.returns-then-not-is_finite

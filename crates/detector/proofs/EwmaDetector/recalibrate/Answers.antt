@@ -1,6 +1,5 @@
 -- `detector::EwmaDetector::recalibrate` meets its contract. Assumes nothing.
 use mathlib.Core.Path.{sym, ◌∙◌}
-use borrow.Author.Rules.{rules}
 use Rattle.detector.specs.Ewma.{recalibrated}
 use Rattle.detector.proofs.EwmaDetector.recalibrate.Goals as goal
 

@@ -1,5 +1,4 @@
 -- `detector::EwmaDetector::score` meets its contract. Assumes nothing.
-use borrow.Author.Rules.{rules}
 use Rattle.detector.specs.Ewma.{score_of}
 use Rattle.detector.proofs.EwmaDetector.score.Goals as goal
 

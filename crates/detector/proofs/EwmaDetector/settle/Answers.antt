@@ -1,5 +1,4 @@
 -- `detector::EwmaDetector::settle` meets its contract. Assumes nothing.
-use borrow.Author.Rules.{rules}
 use mathlib.Core.Path.{sym, ◌∙◌}
 use Rattle.detector.proofs.Told.{chosen, other, or_yes, or_next}
 use Rattle.detector.specs.Ewma.{settled}

@@ -1,6 +1,5 @@
 -- `detector::EwmaDetector::update` meets its contract. Assumes nothing.
 use mathlib.Core.Path.{sym, ◌∙◌}
-use borrow.Author.Rules.{rules}
 use borrow.Author.Tests.{eq-eqb, ne_eqb, lt-ltb, le-ltb}
 use Rattle.detector.specs.Ewma.{updated}
 use Rattle.detector.proofs.EwmaDetector.update.Goals as goal

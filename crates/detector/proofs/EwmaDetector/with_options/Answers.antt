@@ -1,6 +1,5 @@
 -- `detector::EwmaDetector::with_options` meets its contract. Assumes nothing.
 use mathlib.Core.Path.{sym, ◌∙◌}
-use borrow.Author.Rules.{rules}
 use Rattle.detector.specs.Ewma.{made_of, allowed}
 use Rattle.detector.proofs.EwmaDetector.with_options.Goals as goal
 

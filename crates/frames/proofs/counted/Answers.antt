@@ -1,6 +1,5 @@
 -- `frames::counted` meets its contract.
 -- Assumes nothing.
-use borrow.Author.Rules.{rules}
 use Rattle.frames.proofs.counted.Goals as goal
 
 pub returns-in-PassedOver : goal.returns-in-PassedOver

@@ -1,7 +1,6 @@
 -- `frames::effective_can_id` meets its contract.
 -- Assumes nothing.
 use Rattle.frames.specs.Frames.{effective_of}
-use borrow.Author.Rules.{rules}
 use Rattle.frames.proofs.effective_can_id.Goals as goal
 
 pub returns : goal.returns

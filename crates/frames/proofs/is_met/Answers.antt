@@ -1,7 +1,6 @@
 -- `frames::is_met` meets its contract.
 -- Assumes nothing.
 use Rattle.frames.specs.Frames.{meets}
-use borrow.Author.Rules.{rules}
 use Rattle.frames.proofs.is_met.Goals as goal
 
 pub returns-in-Always : goal.returns-in-Always

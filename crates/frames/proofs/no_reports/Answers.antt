@@ -1,7 +1,6 @@
 -- `frames::no_reports` meets its contract.
 -- Assumes nothing.
 use Rattle.frames.proofs.Answers.{blank_is}
-use borrow.Author.Rules.{rules}
 use Rattle.frames.proofs.no_reports.Goals as goal
 
 pub returns : goal.returns

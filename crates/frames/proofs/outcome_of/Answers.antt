@@ -1,6 +1,5 @@
 -- `frames::outcome_of` meets its contract.
 -- Assumes nothing.
-use borrow.Author.Rules.{rules}
 use Rattle.frames.proofs.outcome_of.Goals as goal
 
 pub returns-in-Ignored : goal.returns-in-Ignored

@@ -2,7 +2,6 @@
 -- Assumes nothing.
 use mathlib.Core.Path.{sym, ◌∙◌}
 use Rattle.detector.proofs.Told.{chosen, other}
-use borrow.Author.Rules.{rules}
 use Rattle.frames.proofs.payload_by.Goals as goal
 
 pub returns-then-is_fd : goal.returns-then-is_fd

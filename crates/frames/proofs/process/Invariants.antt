@@ -1,19 +1,9 @@
 -- `frames::process` meets its contract. The first loop has the rows from `k` on left to search for the multiplexor (`Searching`), the second has moved and
 -- reported the rows before `next` (`Moving`); each turn is a lemma of Search or Moves.
 -- Assumes nothing.
-use mathlib.Core.Path.{sym, ap, ◌∙◌}
-use Prim.Native.Nat.{◌<◌, ◌-◌}
-use native.Mathlib.Omega.{arith}
-use borrow.Author.Rules.{rules}
-use borrow.Author.Tests.{not-true, not-false}
-use lib.ListN.{length}
-use Rattle.table.proofs.Columns.{Sound, sound_of_lem}
-use Rattle.frames.specs.declared.Multiplexor.{Multiplexor}
-use Rattle.frames.specs.Parts.{raised_of}
-use Rattle.frames.proofs.Answers.{room}
-use Rattle.frames.proofs.Rows.{Visit}
-use Rattle.frames.proofs.Search.{Searching, search_begins, search_ends, search_on, search_is}
-use Rattle.frames.proofs.Moves.{Moving, Applied, moving_begins, room_for_report, room_in_counts, ids_stay, other_type, next_here, engine_moves, result_quiet, result_listed, moving_ends}
+use Prim.Native.Nat.{◌-◌}
+use Rattle.frames.proofs.Search.{Searching}
+use Rattle.frames.proofs.Moves.{Moving}
 use Rattle.frames.proofs.process.Given as goal
 
 abbrev pub invariant-loop-k : goal.invariant-loop-k

@@ -3,7 +3,6 @@
 use mathlib.Core.Path.{ap, ◌∙◌}
 use Prim.Native.Nat.{ℕ}
 use Rattle.frames.specs.Frames.{effective_by, effective_of, processed}
-use borrow.Author.Rules.{rules}
 use Rattle.frames.proofs.process_lent_frame.Goals as goal
 
 pub returns : goal.returns

@@ -4,7 +4,6 @@ use mathlib.Core.Path.{sym, ◌∙◌}
 use borrow.Author.Tests.{le-ltb}
 use Rattle.detector.proofs.Told.{chosen, other}
 use Rattle.frames.proofs.Answers.{raises}
-use borrow.Author.Rules.{rules}
 use Rattle.frames.proofs.raised.Goals as goal
 
 pub returns-then-listed-ge8 : goal.returns-then-listed-ge8

@@ -1,7 +1,6 @@
 -- `frames::reason_of` meets its contract.
 -- Assumes nothing.
 use mathlib.Core.Path.{refl}
-use borrow.Author.Rules.{rules}
 use Rattle.frames.proofs.Steps.{explained, not_asked}
 use Rattle.frames.proofs.reason_of.Goals as goal
 

@@ -1,12 +1,7 @@
 -- `frames::row_with` meets its contract.
 -- Assumes nothing.
-use mathlib.Core.Path.{◌≡◌, ap}
-use mathlib.Core.Bool.{not}
+use mathlib.Core.Path.{◌≡◌}
 use Prim.Native.Nat.{◌-◌, ◌≤◌}
-use native.Mathlib.Omega.{arith}
-use lib.Dec.{eqb}
-use borrow.Author.Tests.{eq-eqb, ne_eqb}
-use Rattle.table.proofs.Laws.{front_next, front_stop, front_end}
 use Rattle.frames.specs.Parts.{row_from}
 use Rattle.frames.proofs.row_with.Given as goal
 

@@ -7,7 +7,6 @@ use Rattle.bits.specs.declared.Raw.{Raw}
 use Rattle.frames.specs.declared.Sought.TheVariants.{Ends}
 use Rattle.frames.specs.Frames.{numbered}
 use Rattle.frames.proofs.Steps.{no_number, seek_other_type, seek_plain, seek_multiplexor}
-use borrow.Author.Rules.{rules}
 use Rattle.frames.proofs.seek.Goals as goal
 
 pub returns-then-not-is_typed : goal.returns-then-not-is_typed

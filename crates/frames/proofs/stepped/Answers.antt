@@ -1,10 +1,8 @@
 -- `frames::stepped` meets its contract.
 -- Assumes nothing.
 use mathlib.Core.Path.{sym, ap, ◌∙◌}
-use borrow.Author.Tests.{not-true, not-false}
 use Rattle.conversion.specs.Extract.{extracted_means}
 use Rattle.frames.proofs.Steps.{step_over, step_refused, step_value}
-use borrow.Author.Rules.{rules}
 use Rattle.frames.proofs.stepped.Goals as goal
 
 pub returns-then-not-is_met : goal.returns-then-not-is_met

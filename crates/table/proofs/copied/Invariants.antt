@@ -1,13 +1,9 @@
 -- `table::copied` meets its contract: out holds its own rows and those of e from the first place up to i. Assumes nothing.
-use mathlib.Core.Path.{◌≡◌, sym, ap, ◌∙◌}
-use mathlib.Core.List.{List, [], ◌∷◌, ◌++◌, append-nil, append_assoc}
-use Prim.Native.Nat.{ℕ, ◌+◌, ◌-◌, ◌≤◌}
-use native.Mathlib.Omega.{arith}
+use mathlib.Core.Path.{◌≡◌}
+use mathlib.Core.List.{◌++◌}
+use Prim.Native.Nat.{◌+◌, ◌-◌, ◌≤◌}
 use lib.ListN.{take, drop}
-use Rattle.table.specs.declared.Entry.{Entry}
 use Rattle.table.specs.Table.{rows_of, live, table_of, engine_of, with_rows}
-use Rattle.table.proofs.Laws.{slice_more, slice_none}
-use Rattle.table.proofs.Columns.{past, sound_of_lem, length_rows, row_is, stored}
 use Rattle.table.proofs.copied.Given as goal
 
 abbrev pub invariant-loop-i : goal.invariant-loop-i

@@ -1,7 +1,6 @@
 -- `table::emptied` meets its contract. Assumes nothing.
 use mathlib.Core.Path.{ap}
 use Rattle.table.specs.declared.SignalIdsEngine.{SignalIdsEngine}
-use borrow.Author.Rules.{rules}
 use Rattle.table.proofs.emptied.Goals as goal
 
 pub returns : goal.returns

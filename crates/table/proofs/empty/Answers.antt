@@ -1,6 +1,5 @@
 -- `table::empty` meets its contract. Assumes nothing.
 use Rattle.table.proofs.Columns.{empty_is}
-use borrow.Author.Rules.{rules}
 use Rattle.table.proofs.empty.Goals as goal
 
 pub returns : goal.returns

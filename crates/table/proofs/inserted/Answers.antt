@@ -7,7 +7,6 @@ use lib.Seq.{append_snoc, take-take}
 use Rattle.table.specs.declared.Entry.{Entry}
 use Rattle.table.specs.Table.{rows_of, live, table_of, engine_of, with_rows}
 use Rattle.table.proofs.Columns.{blank_behind, begun, grown, count_is}
-use borrow.Author.Rules.{rules}
 use Rattle.table.proofs.inserted.Goals as goal
 
 pub copied-before-requires : goal.copied-before-requires

@@ -6,7 +6,6 @@ use Rattle.table.specs.Table.{rows_of, live, below}
 use Rattle.table.proofs.Laws.{front_le}
 use Rattle.table.proofs.Columns.{sound_of_lem}
 use Rattle.table.proofs.Answers.{position_is, placed_is}
-use borrow.Author.Rules.{rules}
 use Rattle.table.proofs.placed.Goals as goal
 
 pub position-p-requires : goal.position-p-requires

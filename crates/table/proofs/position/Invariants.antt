@@ -1,12 +1,9 @@
 -- `table::position` meets its contract. Assumes nothing.
-use borrow.Author.Tests.{lt-ltb, le-ltb}
-use Rattle.table.proofs.Laws.{front_next, front_stop, front_end}
 use Prim.Native.Nat.{◌+◌, ◌-◌, ◌≤◌}
 use lib.Dec.{ltb}
 use lib.ListN.{take, drop}
 use mathlib.Core.Path.{◌≡◌}
 use Rattle.table.specs.Rows.{front}
-use native.Mathlib.Omega.{arith}
 use Rattle.table.proofs.position.Given as goal
 
 abbrev pub invariant-loop-i : goal.invariant-loop-i

@@ -2,8 +2,7 @@
 use mathlib.Core.Path.{◌≡◌, sym, ◌∙◌}
 use mathlib.Core.Bool.{cond}
 use Prim.Native.Nat.{ℕ}
-use borrow.Author.Rules.{rules}
-use Rattle.detector.proofs.Told.{told_yes, told_no, chosen, other}
+use Rattle.detector.proofs.Told.{chosen, other}
 use Rattle.table.specs.Table.{length_ok, scale_ok, id_ok, mux_ok}
 use Rattle.table.proofs.refusal.Goals as goal
 

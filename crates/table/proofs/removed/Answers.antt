@@ -8,7 +8,6 @@ use lib.Seq.{take-take}
 use Rattle.table.specs.declared.Entry.{Entry}
 use Rattle.table.specs.Table.{rows_of, table_of, engine_of, with_rows}
 use Rattle.table.proofs.Columns.{blank_behind, begun, grown, count_is}
-use borrow.Author.Rules.{rules}
 use Rattle.table.proofs.removed.Goals as goal
 
 pub copied-before-requires : goal.copied-before-requires

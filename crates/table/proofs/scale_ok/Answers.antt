@@ -1,6 +1,5 @@
 -- `table::scale_ok` meets its contract. Assumes nothing.
 use Rattle.table.specs.Table.{scale_ok}
-use borrow.Author.Rules.{rules}
 use Rattle.table.proofs.scale_ok.Goals as goal
 
 pub returns-then-is_finite : goal.returns-then-is_finite

@@ -1,7 +1,6 @@
 -- `table::slots_ok` meets its contract. Assumes nothing.
 use borrow.Author.Tests.{eq-eqb, ne_eqb, le-leb, lt-leb}
 use Rattle.table.specs.Table.{slots_ok}
-use borrow.Author.Rules.{rules}
 use Rattle.table.proofs.slots_ok.Goals as goal
 
 pub returns-then-n-eq0 : goal.returns-then-n-eq0

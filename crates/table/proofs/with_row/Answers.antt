@@ -1,7 +1,6 @@
 -- `table::with_row` meets its contract. Assumes nothing.
 use Rattle.table.specs.Table.{table_of}
 use Rattle.table.proofs.Columns.{stored}
-use borrow.Author.Rules.{rules}
 use Rattle.table.proofs.with_row.Goals as goal
 
 pub returns : goal.returns

@@ -1,7 +1,6 @@
 -- `can_log::decode::define` meets its contract.
 -- Assumes nothing.
 use Rattle.can_log.proofs.Front as front
-use borrow.Author.Rules.{rules}
 use Rattle.can_log.proofs.decode.define.Goals as goal
 
 pub returns-then-is_bad : goal.returns-then-is_bad

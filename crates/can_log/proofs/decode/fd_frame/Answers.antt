@@ -6,10 +6,8 @@ use Prim.Native.Nat.{ℕ}
 use native.Mathlib.Omega.{arith}
 use lib.Dec.{eqb}
 use lib.ListN.{get_or}
-use Rattle.detector.proofs.Told.{told_yes, told_no}
 use Rattle.can_log.specs.Records.{Front}
 use Rattle.can_log.proofs.Front.{fd_undefined_flag, fd_unlisted, fd_sound}
-use borrow.Author.Rules.{rules}
 use Rattle.can_log.proofs.decode.fd_frame.Goals as goal
 
 pub returns-then-flags-ge2 : goal.returns-then-flags-ge2

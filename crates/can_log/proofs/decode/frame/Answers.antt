@@ -8,7 +8,6 @@ use lib.Dec.{eqb}
 use lib.ListN.{get_or}
 use Rattle.can_log.specs.Records.{Front, flag}
 use Rattle.can_log.proofs.Front.{undefined_flag, long_frame, defined-flags}
-use borrow.Author.Rules.{rules}
 use Rattle.can_log.proofs.decode.frame.Goals as goal
 
 pub returns-then-flags-ge4 : goal.returns-then-flags-ge4

@@ -2,7 +2,6 @@
 -- Assumes nothing.
 use Rattle.can_log.specs.Records.{misplaced}
 use mathlib.Core.Path.{ap, sym}
-use borrow.Author.Rules.{rules}
 use Rattle.can_log.proofs.decode.is_misplaced.Goals as goal
 
 pub returns-in-Settings : goal.returns-in-Settings

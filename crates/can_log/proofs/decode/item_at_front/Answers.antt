@@ -5,7 +5,6 @@ use borrow.Author.Tests.{eq-eqb, ne_eqb}
 use lib.Seq.{length-take-le}
 use Rattle.can_log.specs.Records.{item_of}
 use Rattle.can_log.proofs.Front as front
-use borrow.Author.Rules.{rules}
 use Rattle.can_log.proofs.decode.item_at_front.Goals as goal
 
 pub returns-then-s-eq0 : goal.returns-then-s-eq0

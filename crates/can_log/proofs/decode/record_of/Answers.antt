@@ -2,7 +2,6 @@
 -- Assumes nothing.
 use Rattle.can_log.specs.Records.{size_of, record_of}
 use mathlib.Core.Path.{◌∙◌, ap, sym}
-use borrow.Author.Rules.{rules}
 use Rattle.can_log.proofs.decode.record_of.Goals as goal
 
 pub settings-requires : goal.settings-requires

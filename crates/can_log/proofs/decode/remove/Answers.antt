@@ -1,7 +1,6 @@
 -- `can_log::decode::remove` meets its contract.
 -- Assumes nothing.
 use Rattle.can_log.specs.Records.{remove_of}
-use borrow.Author.Rules.{rules}
 use Rattle.can_log.proofs.decode.remove.Goals as goal
 
 pub returns : goal.returns

@@ -1,7 +1,6 @@
 -- `can_log::decode::settings` meets its contract.
 -- Assumes nothing.
 use Rattle.can_log.specs.Records.{settings_of}
-use borrow.Author.Rules.{rules}
 use Rattle.can_log.proofs.decode.settings.Goals as goal
 
 pub returns : goal.returns

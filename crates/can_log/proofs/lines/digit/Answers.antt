@@ -1,7 +1,6 @@
 -- `can_log::lines::digit` meets its contract.
 -- Assumes nothing.
 use borrow.Author.Tests.{lt-ltb, le-ltb}
-use borrow.Author.Rules.{rules}
 use Rattle.can_log.proofs.lines.digit.Goals as goal
 
 pub returns-then-d-lt10 : goal.returns-then-d-lt10

@@ -1,7 +1,6 @@
 -- `can_log::lines::hex` meets its contract.
 -- Assumes nothing.
 use Rattle.can_log.specs.Lines.{hex8}
-use borrow.Author.Rules.{rules}
 use Rattle.can_log.proofs.lines.hex.Goals as goal
 
 pub returns : goal.returns

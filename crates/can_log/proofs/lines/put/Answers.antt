@@ -1,11 +1,10 @@
 -- `can_log::lines::put` meets its contract.
 -- Assumes nothing.
 use Rattle.can_log.proofs.Texts.{copied, one_more}
-use mathlib.Core.Path.{◌≡◌, refl, ◌∙◌, ap}
-use Prim.Native.Nat.{◌≤◌, ◌-◌}
+use mathlib.Core.Path.{refl, ◌∙◌, ap}
 use native.Mathlib.Omega.{arith}
 use lib.ListN.{length, take}
-use lib.Seq.{sets, length-sets}
+use lib.Seq.{length-sets}
 use Rattle.can_log.proofs.lines.put.Goals as goal
 
 pub loop-i-init : goal.loop-i-init

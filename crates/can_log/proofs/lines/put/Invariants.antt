@@ -1,11 +1,9 @@
 -- `can_log::lines::put` meets its contract.
 -- Assumes nothing.
-use Rattle.can_log.proofs.Texts.{copied, one_more}
-use mathlib.Core.Path.{◌≡◌, refl, ◌∙◌, ap}
+use mathlib.Core.Path.{◌≡◌}
 use Prim.Native.Nat.{◌≤◌, ◌-◌}
-use native.Mathlib.Omega.{arith}
 use lib.ListN.{length, take}
-use lib.Seq.{sets, length-sets}
+use lib.Seq.{sets}
 use Rattle.can_log.proofs.lines.put.Given as goal
 
 abbrev pub invariant-loop-i : goal.invariant-loop-i

@@ -2,10 +2,10 @@
 -- Assumes nothing.
 use Rattle.can_log.proofs.Texts.{then, named, nothing, next_line, lines-length}
 use mathlib.Core.Path.{◌≡◌, refl, ap}
-use Prim.Native.Nat.{ℕ, ◌≤◌, ◌-◌}
+use Prim.Native.Nat.{ℕ}
 use native.Mathlib.Omega.{arith}
-use lib.ListN.{length, take, length-take}
-use Rattle.can_log.specs.Lines.{Put, anomaly_lines}
+use lib.ListN.{take, length-take}
+use Rattle.can_log.specs.Lines.{anomaly_lines}
 use Rattle.can_log.proofs.lines.put_anomalies.Goals as goal
 
 pub loop-i-init : goal.loop-i-init

@@ -1,10 +1,8 @@
 -- `can_log::lines::put_anomalies` meets its contract.
 -- Assumes nothing.
-use Rattle.can_log.proofs.Texts.{then, named, nothing, next_line, lines-length}
-use mathlib.Core.Path.{◌≡◌, refl, ap}
-use Prim.Native.Nat.{ℕ, ◌≤◌, ◌-◌}
-use native.Mathlib.Omega.{arith}
-use lib.ListN.{length, take, length-take}
+use mathlib.Core.Path.{◌≡◌}
+use Prim.Native.Nat.{◌≤◌, ◌-◌}
+use lib.ListN.{length, take}
 use Rattle.can_log.specs.Lines.{Put, anomaly_lines}
 use Rattle.can_log.proofs.lines.put_anomalies.Given as goal
 

@@ -4,7 +4,6 @@ use Rattle.can_log.proofs.Texts.{numbers-length, field-length, then, named}
 use Rattle.can_log.specs.Lines.{numbers, ascii}
 use mathlib.Core.Path.{ap}
 use native.Mathlib.Omega.{arith}
-use borrow.Author.Rules.{rules}
 use Rattle.can_log.proofs.lines.put_anomaly.Goals as goal
 
 pub put_field-b-requires : goal.put_field-b-requires

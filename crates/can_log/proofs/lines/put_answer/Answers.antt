@@ -4,7 +4,6 @@ use Rattle.can_log.specs.Lines.{line, answer_line, ascii}
 use Rattle.can_log.proofs.Texts.{named, then, dec-length}
 use mathlib.Core.Path.{◌∙◌, ap, sym}
 use native.Mathlib.Omega.{arith}
-use borrow.Author.Rules.{rules}
 use Rattle.can_log.proofs.lines.put_answer.Goals as goal
 
 pub put-requires : goal.put-requires

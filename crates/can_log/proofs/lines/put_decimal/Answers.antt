@@ -4,7 +4,6 @@ use lib.ListN.{length}
 use mathlib.Core.Path.{◌∙◌, ap}
 use Rattle.can_log.proofs.Texts.{dec-length, named, fewest_dec}
 use native.Mathlib.Omega.{arith}
-use borrow.Author.Rules.{rules}
 use Rattle.can_log.proofs.lines.put_decimal.Goals as goal
 
 pub put-requires : goal.put-requires

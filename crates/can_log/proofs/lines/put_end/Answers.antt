@@ -3,7 +3,6 @@
 use Rattle.can_log.specs.Lines.{line, ascii}
 use Rattle.can_log.proofs.Texts.{named}
 use mathlib.Core.Path.{ap}
-use borrow.Author.Rules.{rules}
 use Rattle.can_log.proofs.lines.put_end.Goals as goal
 
 pub returns : goal.returns

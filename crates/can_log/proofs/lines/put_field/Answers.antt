@@ -3,7 +3,6 @@
 use Rattle.can_log.proofs.Texts.{then, named}
 use Rattle.can_log.specs.Lines.{hex8}
 use mathlib.Core.Path.{ap}
-use borrow.Author.Rules.{rules}
 use Rattle.can_log.proofs.lines.put_field.Goals as goal
 
 pub returns : goal.returns

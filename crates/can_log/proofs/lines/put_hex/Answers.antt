@@ -1,7 +1,6 @@
 -- `can_log::lines::put_hex` meets its contract.
 -- Assumes nothing.
 use Rattle.can_log.proofs.Texts.{named}
-use borrow.Author.Rules.{rules}
 use Rattle.can_log.proofs.lines.put_hex.Goals as goal
 
 pub returns : goal.returns

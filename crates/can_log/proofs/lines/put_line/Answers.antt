@@ -2,7 +2,6 @@
 -- Assumes nothing.
 use Rattle.can_log.proofs.Texts.{numbers-length, then}
 use native.Mathlib.Omega.{arith}
-use borrow.Author.Rules.{rules}
 use Rattle.can_log.proofs.lines.put_line.Goals as goal
 
 pub put-requires : goal.put-requires

@@ -2,7 +2,6 @@
 -- Assumes nothing.
 use Rattle.can_log.proofs.Texts.{dec-length, then}
 use native.Mathlib.Omega.{arith}
-use borrow.Author.Rules.{rules}
 use Rattle.can_log.proofs.lines.put_numbers.Goals as goal
 
 pub put-c-requires : goal.put-c-requires

@@ -3,7 +3,6 @@
 use Rattle.can_log.proofs.Texts.{named}
 use Rattle.can_log.specs.Lines.{text_of}
 use mathlib.Core.Path.{ap, sym}
-use borrow.Author.Rules.{rules}
 use Rattle.can_log.proofs.lines.put_text.Goals as goal
 
 pub returns-in-Defined : goal.returns-in-Defined

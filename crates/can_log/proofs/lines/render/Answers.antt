@@ -2,7 +2,6 @@
 -- Assumes nothing.
 use lib.ListN.{length}
 use Rattle.can_log.proofs.Texts.{no_room_lem, kept_whole, written, written_in}
-use borrow.Author.Rules.{rules}
 use Rattle.can_log.proofs.lines.render.Goals as goal
 
 pub returns-then-out-lt55 : goal.returns-then-out-lt55

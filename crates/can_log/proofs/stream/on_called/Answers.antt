@@ -1,7 +1,6 @@
 -- `can_log::stream::on_called` meets its contract.
 -- Assumes nothing.
 use Rattle.can_log.proofs.Steps.{sounds}
-use borrow.Author.Rules.{rules}
 use Rattle.can_log.proofs.stream.on_called.Goals as goal
 
 pub returns : goal.returns

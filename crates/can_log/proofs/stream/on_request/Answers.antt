@@ -9,7 +9,6 @@ use Rattle.can_log.proofs.Below.{by_new, by_define, by_remove}
 use Rattle.can_log.specs.Lines.{ascii}
 use Rattle.table.specs.declared.Defined.{Defined}
 use mathlib.Core.Path.{◌∙◌, ap, sym}
-use borrow.Author.Rules.{rules}
 use Rattle.can_log.proofs.stream.on_request.Goals as goal
 
 abbrev requested : Log → Request → Move

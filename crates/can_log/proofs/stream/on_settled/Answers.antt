@@ -4,7 +4,6 @@ use Rattle.can_log.proofs.Steps.{does, sounds}
 use Rattle.can_log.proofs.Texts.{nothing}
 use Rattle.can_log.specs.Output.{settled_step}
 use mathlib.Core.Path.{ap, sym}
-use borrow.Author.Rules.{rules}
 use Rattle.can_log.proofs.stream.on_settled.Goals as goal
 
 pub returns-in-Slot : goal.returns-in-Slot

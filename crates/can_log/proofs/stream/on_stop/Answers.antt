@@ -3,7 +3,6 @@
 use Rattle.can_log.proofs.Steps.{told}
 use mathlib.Core.Path.{refl}
 use native.Mathlib.Omega.{arith}
-use borrow.Author.Rules.{rules}
 use Rattle.can_log.proofs.stream.on_stop.Goals as goal
 
 pub returns : goal.returns

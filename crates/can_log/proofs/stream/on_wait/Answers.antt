@@ -4,7 +4,6 @@ use Rattle.can_log.proofs.Steps.{told, does, at_end_lem}
 use Rattle.can_log.proofs.Texts.{nothing}
 use mathlib.Core.Path.{refl}
 use native.Mathlib.Omega.{arith}
-use borrow.Author.Rules.{rules}
 use Rattle.can_log.proofs.stream.on_wait.Goals as goal
 
 pub returns-then-ended : goal.returns-then-ended

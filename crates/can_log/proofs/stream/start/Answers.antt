@@ -5,7 +5,6 @@ use Rattle.can_log.proofs.Below.{by_new}
 use Rattle.table.specs.declared.Defined.{Defined}
 use mathlib.Core.Path.{ap}
 use Rattle.can_log.specs.declared.stream.Log.{Log}
-use borrow.Author.Rules.{rules}
 use Rattle.can_log.proofs.stream.start.Goals as goal
 
 abbrev begun : Defined → Log

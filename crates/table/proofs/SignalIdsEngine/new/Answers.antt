@@ -7,7 +7,6 @@ use Rattle.table.specs.declared.Answer.TheVariants.{Done, Refused}
 use Rattle.detector.specs.declared.EwmaDetector.{EwmaDetector}
 use Rattle.detector.specs.Answers.{made_means}
 use Rattle.table.specs.Table.{engine_of, empty_table, newly}
-use borrow.Author.Rules.{rules}
 use Rattle.table.proofs.SignalIdsEngine.new.Goals as goal
 
 abbrev answered : Answer → SignalIdsEngine → Defined

@@ -99,6 +99,8 @@ def place(edit, said):
     # a goal's name stands alone in brackets; where the line is cut in it, its beginning does
     goal = re.search(r'\(`([^`()]+)`\)', text)
     cut = re.search(r'\(`([^`()]*)$', text)
+    if not goal and not cut and len(said) < 155:
+        return None
     name = goal[1] if goal else cut[1] + '..' if cut else '..'
     return f'fn {function_at(crate, file, source, number)} {name}'
 
@@ -132,7 +134,7 @@ def tried(log):
 
 def refusal(said):
     """The first words of the prover on an edit that it refused for what it says, or else nothing and why that is no such refusal."""
-    found = re.match(r'refused, as it must be(?: \(only by a limit.*?\))?: (.*)$', said)
-    if found:
+    found = re.match(r'refused, as it must be: (.*)$', said)
+    if found and not FOLLOWS.search(found[1]):
         return found[1], None
     return None, said

@@ -1,4 +1,5 @@
-/* The detector for hosts that keep their own: what libhost.a exports. Made by `rt lib` in crates/host; x86-64, System V calls.
+/* The detector for hosts that keep their own: what libhost.a exports. Made by `rt lib` in crates/host_c, which names it
+ * libhost_c.a (hosts/check copies it); x86-64, System V calls.
  * What each function promises is proved; crates/host/src/lib.rt states it, docs/PROMISES.md says it in words.
  *
  * The host owes the following, and nothing checks it:

@@ -205,12 +205,12 @@ loop-next-preserved c =
     let visited : Visit = record { engine = c.args.engine; n = c.clamp-n.result; id = c.args.key.id; extended = c.args.key.extended; bytes = c.args.bytes.now; size = c.args.data_len } in
     let columns : Sound visited.engine = sound_of_lem _ c.well_formed.0 in
     let number : Multiplexor = c.loop-k.m in
-    let applied : Applied visited number c.loop-next.engine c.loop-next.next c.stepped-step.result c.report_of-report.result = record { has_type = sym c.is_typed.ensures ∙ c.if-not-is_typed.false; is = c.stepped-step.ensures; reported = c.report_of-report.ensures } in
+    let told : Applied visited number c.loop-next.engine c.loop-next.next c.stepped-step.result c.report_of-report.result = record { has_type = sym c.is_typed.ensures ∙ c.if-not-is_typed.false; is = c.stepped-step.ensures; reported = c.report_of-report.ensures } in
     let next = c.row_with-next-in-loop-next.ensures in
     record {
       here = next_here visited columns number c.loop-next.invariant c.loop-next-test.true next;
-      engine = engine_moves visited columns number c.loop-next.invariant c.loop-next-test.true next applied;
-      result = result_quiet visited columns number c.loop-next.invariant c.loop-next-test.true next applied c.counted-result.ensures (ap raised_of (sym c.in_default-raised.is) ∙ c.raised.ensures);
+      engine = engine_moves visited columns number c.loop-next.invariant c.loop-next-test.true next told;
+      result = result_quiet visited columns number c.loop-next.invariant c.loop-next-test.true next told c.counted-result.ensures (ap raised_of (sym c.in_default-raised.is) ∙ c.raised.ensures);
     }
 
 pub returns : goal.returns

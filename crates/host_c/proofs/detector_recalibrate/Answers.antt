@@ -1,0 +1,5 @@
+-- `host_c::detector_recalibrate` meets its contract: it is that of the call of its name. Assumes nothing.
+use Rattle.host_c.proofs.detector_recalibrate.Goals as goal
+
+pub returns : goal.returns
+returns c = c.detector_recalibrate.ensures

@@ -16,6 +16,7 @@ use Rattle.detector.proofs.Told.{and_other}
 use Rattle.table.specs.declared.SignalIdsEngine.{SignalIdsEngine}
 use Rattle.frames.specs.declared.FrameHeader.{FrameHeader}
 use Rattle.frames.specs.Frames.{effective_of, Framed, processed}
+use Rattle.std.specs.Prelude.{Option, Some, None}
 use Rattle.can_log.specs.declared.decode.Mark.{Mark}
 use Rattle.can_log.specs.declared.stream.Log.{Log}
 use Rattle.can_log.specs.Records.{Front, item_of, marked, mark_of, size_of, misplaced, record_of, settings_of, define_of, remove_of, frame_of, bad_flags, le16}
@@ -25,13 +26,13 @@ use Rattle.can_log.proofs.Steps.{choose, going}
 use Rattle.can_log.proofs.Runs.{when, run_fuel}
 
 -- ---- the rules from before
-abbrev pub mark_before : ℕ → ℕ → Mark
+abbrev pub mark_before : ℕ → ℕ → Option Mark
 mark_before a b =
     cond (eqb a 0xA5)
-    (cond (eqb b 0x50) Mark.Settings
-    (cond (eqb b 0x44) Mark.Definition
-    (cond (eqb b 0x52) Mark.Removal
-    (cond (eqb b 0x46) Mark.Frame Mark.Unknown)))) Mark.Unknown
+    (cond (eqb b 0x50) (Some Mark.Settings)
+    (cond (eqb b 0x44) (Some Mark.Definition)
+    (cond (eqb b 0x52) (Some Mark.Removal)
+    (cond (eqb b 0x46) (Some Mark.Frame) None)))) None
 
 abbrev pub item_before : ℕ → List ℕ → Front
 item_before n s =
@@ -84,8 +85,8 @@ unfolding mark_of
 same_mark a b h = go (eqb a 0xA5) (eqb b 0x58) h
   where
     go : (x y : Bool) → (x && y) ≡ false
-        → cond x (cond (eqb b 0x50) Mark.Settings (cond (eqb b 0x44) Mark.Definition (cond (eqb b 0x52) Mark.Removal (cond (eqb b 0x46) Mark.Frame (cond y Mark.FdFrame Mark.Unknown))))) Mark.Unknown
-        ≡ cond x (cond (eqb b 0x50) Mark.Settings (cond (eqb b 0x44) Mark.Definition (cond (eqb b 0x52) Mark.Removal (cond (eqb b 0x46) Mark.Frame Mark.Unknown)))) Mark.Unknown
+        → cond x (cond (eqb b 0x50) (Some Mark.Settings) (cond (eqb b 0x44) (Some Mark.Definition) (cond (eqb b 0x52) (Some Mark.Removal) (cond (eqb b 0x46) (Some Mark.Frame) (cond y (Some Mark.FdFrame) None))))) None
+        ≡ cond x (cond (eqb b 0x50) (Some Mark.Settings) (cond (eqb b 0x44) (Some Mark.Definition) (cond (eqb b 0x52) (Some Mark.Removal) (cond (eqb b 0x46) (Some Mark.Frame) None)))) None
     go true true k = absurd (true≢false k)
     go true false k = refl
     go false y k = refl
@@ -93,7 +94,7 @@ same_mark a b h = go (eqb a 0xA5) (eqb b 0x58) h
 same_item : (n : ℕ) (s : List ℕ) → begins_fd s ≡ false → item_of n s ≡ item_before n s
 unfolding item_of
 same_item n s h =
-    ap (λ (k : Mark). cond (eqb (length s) 0) Front.incomplete (cond (eqb n 4294967295) (Front.fault 15) (cond (eqb (length s) 1) Front.incomplete (marked n s k))))
+    ap (λ (k : Option Mark). cond (eqb (length s) 0) Front.incomplete (cond (eqb n 4294967295) (Front.fault 15) (cond (eqb (length s) 1) Front.incomplete (marked n s k))))
     (same_mark (get_or s 0 0) (get_or s 1 0) h)
 
 -- what was a frame is a classic one
@@ -105,13 +106,13 @@ Classic (Front.definition d) = Unit {0}
 Classic (Front.removal k) = Unit {0}
 Classic (Front.frame h) = h.is_fd ≡ false
 
-abbrev NotFd : Mark → Type 0
-NotFd Mark.Settings = Unit {0}
-NotFd Mark.Definition = Unit {0}
-NotFd Mark.Removal = Unit {0}
-NotFd Mark.Frame = Unit {0}
-NotFd Mark.FdFrame = ⊥
-NotFd Mark.Unknown = Unit {0}
+abbrev NotFd : Option Mark → Type 0
+NotFd (Some Mark.Settings) = Unit {0}
+NotFd (Some Mark.Definition) = Unit {0}
+NotFd (Some Mark.Removal) = Unit {0}
+NotFd (Some Mark.Frame) = Unit {0}
+NotFd (Some Mark.FdFrame) = ⊥
+NotFd None = Unit {0}
 
 mark_before_lem : (a b : ℕ) → NotFd (mark_before a b)
 mark_before_lem a b =
@@ -121,14 +122,14 @@ mark_before_lem a b =
     (λ _. choose NotFd (eqb b 0x52) _ _ (λ _. tt)
     (λ _. choose NotFd (eqb b 0x46) _ _ (λ _. tt) (λ _. tt))))) (λ _. tt)
 
-classic_record : (s : List ℕ) (k : Mark) → NotFd k → Classic (record_of s k)
+classic_record : (s : List ℕ) (k : Option Mark) → NotFd k → Classic (record_of s k)
 unfolding settings_of define_of remove_of frame_of
-classic_record s Mark.Settings w = tt
-classic_record s Mark.Definition w = choose Classic (bad_flags (get_or s 6 0) (le16 s 22)) _ _ (λ _. tt) (λ _. tt)
-classic_record s Mark.Removal w = tt
-classic_record s Mark.Frame w = choose Classic (leb 4 (get_or s 2 0)) _ _ (λ _. tt) (λ _. choose Classic (ltb 15 (get_or s 3 0)) _ _ (λ _. tt) (λ _. refl))
-classic_record s Mark.FdFrame w = absurd w
-classic_record s Mark.Unknown w = tt
+classic_record s (Some Mark.Settings) w = tt
+classic_record s (Some Mark.Definition) w = choose Classic (bad_flags (get_or s 6 0) (le16 s 22)) _ _ (λ _. tt) (λ _. tt)
+classic_record s (Some Mark.Removal) w = tt
+classic_record s (Some Mark.Frame) w = choose Classic (leb 4 (get_or s 2 0)) _ _ (λ _. tt) (λ _. choose Classic (ltb 15 (get_or s 3 0)) _ _ (λ _. tt) (λ _. refl))
+classic_record s (Some Mark.FdFrame) w = absurd w
+classic_record s None w = tt
 
 classic_item : (n : ℕ) (s : List ℕ) → Classic (item_before n s)
 classic_item n s =
@@ -185,7 +186,7 @@ stops_there log [] h few = absurd (true≢false (sym h))
 stops_there log (a ∷ []) h few = absurd (true≢false (sym h ∙ and_other (eqb a 0xA5) refl))
 stops_there log (a ∷ b ∷ s) h few = ap (item_step_before log (a ∷ b ∷ s)) fault
   where
-    unknown : (x : Bool) → eqb a 0xA5 ≡ x → (y : Bool) → eqb b 0x58 ≡ y → (x && y) ≡ true → mark_before a b ≡ Mark.Unknown
+    unknown : (x : Bool) → eqb a 0xA5 ≡ x → (y : Bool) → eqb b 0x58 ≡ y → (x && y) ≡ true → mark_before a b ≡ None
     unknown false p y q k = absurd (true≢false (sym k))
     unknown true p false q k = absurd (true≢false (sym k))
     unknown true p true q k = rw (eqb-true a 0xA5 p, eqb-true b 0x58 q) refl

@@ -12,15 +12,15 @@ use Rattle.frames.specs.Frames.{payload_of, effective_of, processed_means, proce
 use Rattle.frames.proofs.Theorems.{few_anomalies}
 use Rattle.can_log.specs.Output.{created_by, defined_by, removed_by, processed_by}
 
-pub by_new : {r : Defined} (a t : Float) → r ≡ created a t → r ≡ created_by a t
+pub by_new : {r : Defined Unit} (a t : Float) → r ≡ created a t → r ≡ created_by a t
 unfolding created_by
 by_new a t p = p
 
-pub by_define : {r : Defined} (e : SignalIdsEngine) (d : SignalDefinition) → r ≡ defined e (define' (table_of e) d) → r ≡ defined_by e d
+pub by_define : {r : Defined ℕ} (e : SignalIdsEngine) (d : SignalDefinition) → r ≡ defined e (define' (table_of e) d) → r ≡ defined_by e d
 unfolding defined_by
 by_define e d p = p
 
-pub by_remove : {r : Defined} (e : SignalIdsEngine) (k : ℕ) → r ≡ defined e (remove' (table_of e) k) → r ≡ removed_by e k
+pub by_remove : {r : Defined Unit} (e : SignalIdsEngine) (k : ℕ) → r ≡ defined e (remove' (table_of e) k) → r ≡ removed_by e k
 unfolding removed_by
 by_remove e k p = p
 

@@ -2,16 +2,20 @@
 -- At exit the buffer is the last parameter.
 -- Assumes nothing.
 use mathlib.Core.Path.{◌≡◌, refl, sym, ap, ◌∙◌}
+use mathlib.Core.Bool.{cond}
 use Prim.Native.Nat.{ℕ}
+use lib.Dec.{eqb}
+use Rattle.std.specs.Prelude.{Option, Some, None, Result, Ok, Err}
 use Rattle.bits.proofs.Promise.{Determines, DeterminesLent}
 use Rattle.can_log.specs.declared.decode.Request.{Request}
+use Rattle.can_log.specs.declared.decode.Stop.{Stop}
 use Rattle.can_log.specs.declared.decode.Item.{Item}
-use Rattle.can_log.specs.declared.lines.Rendered.{Rendered}
+use Rattle.can_log.specs.declared.lines.NoRoom.{NoRoom}
 use Rattle.can_log.specs.declared.stream.Status.{Status}
 use Rattle.can_log.specs.declared.stream.Log.{Log}
 use Rattle.can_log.specs.declared.stream.Step.{Step}
 use Rattle.can_log.specs.Records.{Front, item_means}
-use Rattle.can_log.specs.Lines.{rendered_means}
+use Rattle.can_log.specs.Lines.{Written, wrote, no_room, rendered_means}
 use Rattle.can_log.specs.Output.{Standing, status_means}
 use Rattle.can_log.proofs.decode.item_at_front.Reads as item-at-front
 use Rattle.can_log.proofs.lines.render.Reads as render
@@ -19,30 +23,45 @@ use Rattle.can_log.proofs.stream.start.Reads as start
 use Rattle.can_log.proofs.stream.advance.Reads as advance
 
 -- ---- the meaning of an answer tells all answers apart: each can be read back
-abbrev item_of_front : Front → Item
-item_of_front Front.incomplete = Item.Wait
-item_of_front (Front.fault k) = Item.Stop k
-item_of_front (Front.settings a t) = Item.Call (Request.Settings a t)
-item_of_front (Front.definition d) = Item.Call (Request.Define d)
-item_of_front (Front.removal k) = Item.Call (Request.Remove k)
-item_of_front (Front.frame h) = Item.Frame h
+abbrev stop_of_number : ℕ → Stop
+stop_of_number k =
+    cond (eqb k 10) Stop.UnknownMark
+    (cond (eqb k 11) Stop.Cut (cond (eqb k 12) Stop.Misplaced (cond (eqb k 13) Stop.BadFlags (cond (eqb k 14) Stop.BadLength Stop.TooManyRecords))))
 
-item_read_back : (i : Item) → item_of_front (item_means i) ≡ i
-item_read_back Item.Wait = refl
-item_read_back (Item.Stop k) = refl
-item_read_back (Item.Call (Request.Settings a t)) = refl
-item_read_back (Item.Call (Request.Define d)) = refl
-item_read_back (Item.Call (Request.Remove k)) = refl
-item_read_back (Item.Frame h) = refl
+abbrev item_of_front : Front → Result (Option Item) Stop
+item_of_front Front.incomplete = Ok None
+item_of_front (Front.fault k) = Err (stop_of_number k)
+item_of_front (Front.settings a t) = Ok (Some (Item.Call (Request.Settings a t)))
+item_of_front (Front.definition d) = Ok (Some (Item.Call (Request.Define d)))
+item_of_front (Front.removal k) = Ok (Some (Item.Call (Request.Remove k)))
+item_of_front (Front.frame h) = Ok (Some (Item.Frame h))
 
-pub item_settled : (a b : Item) → item_means a ≡ item_means b → a ≡ b
+item_read_back : (i : Result (Option Item) Stop) → item_of_front (item_means i) ≡ i
+item_read_back (Ok None) = refl
+item_read_back (Ok (Some (Item.Call (Request.Settings a t)))) = refl
+item_read_back (Ok (Some (Item.Call (Request.Define d)))) = refl
+item_read_back (Ok (Some (Item.Call (Request.Remove k)))) = refl
+item_read_back (Ok (Some (Item.Frame h))) = refl
+item_read_back (Err Stop.UnknownMark) = refl
+item_read_back (Err Stop.Cut) = refl
+item_read_back (Err Stop.Misplaced) = refl
+item_read_back (Err Stop.BadFlags) = refl
+item_read_back (Err Stop.BadLength) = refl
+item_read_back (Err Stop.TooManyRecords) = refl
+
+pub item_settled : (a b : Result (Option Item) Stop) → item_means a ≡ item_means b → a ≡ b
 item_settled a b h = sym (item_read_back a) ∙ ap item_of_front h ∙ item_read_back b
 
-pub rendered_settled : (a b : Rendered) → rendered_means a ≡ rendered_means b → a ≡ b
-rendered_settled (Rendered.Length n) (Rendered.Length m) h = cc
-rendered_settled Rendered.NoRoom Rendered.NoRoom h = refl
-rendered_settled (Rendered.Length n) Rendered.NoRoom h = cc
-rendered_settled Rendered.NoRoom (Rendered.Length m) h = cc
+abbrev answer_of_written : Written → Result ℕ NoRoom
+answer_of_written (wrote n) = Ok n
+answer_of_written no_room = Err (record {})
+
+rendered_read_back : (a : Result ℕ NoRoom) → answer_of_written (rendered_means a) ≡ a
+rendered_read_back (Ok n) = refl
+rendered_read_back (Err e) = refl
+
+pub rendered_settled : (a b : Result ℕ NoRoom) → rendered_means a ≡ rendered_means b → a ≡ b
+rendered_settled a b h = sym (rendered_read_back a) ∙ ap answer_of_written h ∙ rendered_read_back b
 
 abbrev status_of_standing : Standing → Status
 status_of_standing Standing.goes = Status.Going

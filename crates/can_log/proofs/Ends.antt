@@ -11,7 +11,8 @@ use lib.Seq.{sets-eq, take_at}
 use lib.Dec.{ltb, leb, eqb}
 use borrow.Author.Tests.{ltb-true, eqb-true}
 use Rattle.table.specs.declared.SignalIdsEngine.{SignalIdsEngine}
-use Rattle.table.specs.declared.Answer.{Answer}
+use Rattle.table.specs.declared.TableError.{TableError}
+use Rattle.std.specs.Prelude.{Option, Some, None, Result, Ok, Err}
 use Rattle.can_log.specs.declared.decode.Mark.{Mark}
 use Rattle.can_log.specs.declared.stream.Log.{Log}
 use Rattle.can_log.specs.declared.stream.Step.{Step}
@@ -91,27 +92,27 @@ Short s i = i ≡ Front.incomplete → length s < 72
 stop_whole : (s : List ℕ) (k : ℕ) → Short s (Front.fault k)
 stop_whole s k q = let z : ◌≡◌ {A = ℕ} 0 1 = cc in absurd (omega arith)
 
-record_whole : (s t : List ℕ) (k : Mark) → Short s (record_of t k)
+record_whole : (s t : List ℕ) (k : Option Mark) → Short s (record_of t k)
 unfolding settings_of define_of remove_of frame_of fd_frame_of
-record_whole s t Mark.Settings = λ q. let z : ◌≡◌ {A = ℕ} 0 1 = cc in absurd (omega arith)
-record_whole s t Mark.Definition =
+record_whole s t (Some Mark.Settings) = λ q. let z : ◌≡◌ {A = ℕ} 0 1 = cc in absurd (omega arith)
+record_whole s t (Some Mark.Definition) =
     choose (Short s) (bad_flags (get_or t 6 0) (le16 t 22)) _ _ (λ _. stop_whole s 13) (λ _ q. let z : ◌≡◌ {A = ℕ} 0 1 = cc in absurd (omega arith))
-record_whole s t Mark.Removal = λ q. let z : ◌≡◌ {A = ℕ} 0 1 = cc in absurd (omega arith)
-record_whole s t Mark.Frame =
+record_whole s t (Some Mark.Removal) = λ q. let z : ◌≡◌ {A = ℕ} 0 1 = cc in absurd (omega arith)
+record_whole s t (Some Mark.Frame) =
     choose (Short s) (leb 4 (get_or t 2 0)) _ _ (λ _. stop_whole s 13)
     (λ _. choose (Short s) (ltb 15 (get_or t 3 0)) _ _ (λ _. stop_whole s 14) (λ _ q. let z : ◌≡◌ {A = ℕ} 0 1 = cc in absurd (omega arith)))
-record_whole s t Mark.FdFrame =
+record_whole s t (Some Mark.FdFrame) =
     choose (Short s) (leb 2 (get_or t 2 0)) _ _ (λ _. stop_whole s 13)
     (λ _. choose (Short s) (fd_length (get_or t 3 0)) _ _ (λ _ q. let z : ◌≡◌ {A = ℕ} 0 1 = cc in absurd (omega arith)) (λ _. stop_whole s 14))
-record_whole s t Mark.Unknown = stop_whole s 10
+record_whole s t None = stop_whole s 10
 
-largest : (k : Mark) → size_of k ≤ 72
-largest Mark.Settings = omega arith
-largest Mark.Definition = omega arith
-largest Mark.Removal = omega arith
-largest Mark.Frame = omega arith
-largest Mark.FdFrame = omega arith
-largest Mark.Unknown = omega arith
+largest : (k : Option Mark) → size_of k ≤ 72
+largest (Some Mark.Settings) = omega arith
+largest (Some Mark.Definition) = omega arith
+largest (Some Mark.Removal) = omega arith
+largest (Some Mark.Frame) = omega arith
+largest (Some Mark.FdFrame) = omega arith
+largest None = omega arith
 
 item_short : (n : ℕ) (s : List ℕ) → Short s (item_of n s)
 unfolding item_of
@@ -123,10 +124,9 @@ item_short n s =
     (λ _. choose (Short s) (ltb (length s) (size_of k)) _ _ (λ e _. omega (arith, ltb-true (length s) (size_of k) e, largest k))
     (λ _. choose (Short s) (misplaced n k) _ _ (λ _. stop_whole s 12) (λ _. record_whole s (take (size_of k) s) k)))))
 
-settled_goes : (log : Log) (e : SignalIdsEngine) (a : Answer) → (settled_step log e a).status ≡ Standing.waits → ⊥
-settled_goes log e Answer.Done q = let z : ◌≡◌ {A = ℕ} 0 1 = cc in omega arith
-settled_goes log e (Answer.Slot k) q = let z : ◌≡◌ {A = ℕ} 0 1 = cc in omega arith
-settled_goes log e (Answer.Refused k) q = let z : ◌≡◌ {A = ℕ} 0 1 = cc in omega arith
+settled_goes : (log : Log) (e : SignalIdsEngine) (a : Result Unit TableError) → (settled_step log e a).status ≡ Standing.waits → ⊥
+settled_goes log e (Ok done) q = let z : ◌≡◌ {A = ℕ} 0 1 = cc in omega arith
+settled_goes log e (Err k) q = let z : ◌≡◌ {A = ℕ} 0 1 = cc in omega arith
 
 item_waits : (e : Bool) (log : Log) (s : List ℕ) (i : Front) → (item_step e log s i).status ≡ Standing.waits → i ≡ Front.incomplete
 item_waits e log s Front.incomplete q = refl

@@ -4,18 +4,37 @@ use mathlib.Core.Bool.{Bool, true, false, ◌||◌}
 use mathlib.Core.List.{List}
 use mathlib.Core.Logic.{◌⊎◌, inl, inr}
 use Prim.Native.Nat.{ℕ, ◌<◌, ◌≤◌}
+use native.Mathlib.Omega.{arith}
 use lib.Dec.{leb, eqb}
 use lib.ListN.{length, get_or, take}
 use borrow.Author.Tests.{eqb-true, ne_eqb, leb-true, le-leb, lt-leb, lt-ltb, le-ltb}
-use Rattle.can_log.specs.Records.{Front, item_of, marked, mark_of, size_of, misplaced, record_of, le16, bad_flags, define_of, definition_of, frame_of, classic_header, fd_length, fd_header, fd_frame_of}
+use Rattle.can_log.specs.Records.{Front, stop_number, item_of, known, marked, mark_of, size_of, misplaced, record_of, le16, bad_flags, define_of, definition_of, frame_of, classic_header, fd_length, fd_header, fd_frame_of}
+use Rattle.std.specs.Prelude.{Option, Some, None, Ok, Err}
+use Rattle.can_log.specs.declared.decode.Stop.{Stop}
 use Rattle.can_log.specs.declared.decode.Mark.{Mark}
+
+-- a mark that is known, and one that isn't
+pub is_known : (m : Option Mark) {k : Mark} → Ok k ≡ known m → Some k ≡ m
+is_known (Some j) e = let i : ◌≡◌ {A = Mark} _ j = cc in ap Some i
+is_known None e = absurd (cc)
+
+pub unknown : (m : Option Mark) {e : Stop} → Err e ≡ known m → (m ≡ None) × (e ≡ Stop.UnknownMark)
+unknown None e = (refl, cc)
+unknown (Some j) e = absurd (cc)
 
 module _ (n : ℕ) (s : List ℕ) (h0 : length s ≡ 0 → ⊥) (hn : n ≡ 4294967295 → ⊥) (h1 : length s ≡ 1 → ⊥) where
   pub placed : item_of n s ≡ marked n s (mark_of (get_or s 0 0) (get_or s 1 0))
   unfolding item_of
   placed = simp (ne_eqb _ _ h0, ne_eqb _ _ hn, ne_eqb _ _ h1)
 
-  module _ (k : Mark) (z : ℕ) (ek : k ≡ mark_of (get_or s 0 0) (get_or s 1 0)) (ez : z ≡ size_of k) where
+  -- a mark that is none of the log's
+  pub unnamed : {e : Stop} → Err e ≡ known (mark_of (get_or s 0 0) (get_or s 1 0)) → Front.fault (stop_number e) ≡ item_of n s
+  unnamed q =
+      let u = unknown (mark_of (get_or s 0 0) (get_or s 1 0)) q in
+      let two : 2 ≤ length s = omega arith in
+      rw (placed, u.0, u.1, le-ltb _ _ two) refl
+
+  module _ (k : Option Mark) (z : ℕ) (ek : k ≡ mark_of (get_or s 0 0) (get_or s 1 0)) (ez : z ≡ size_of k) where
     pub cut : length s < z → Front.incomplete ≡ item_of n s
     cut h = rw (placed, ← ek, ← ez, lt-ltb _ _ h) refl
 

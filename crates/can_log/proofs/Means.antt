@@ -8,7 +8,8 @@ use lib.Dec.{ltb}
 use lib.Ieee.{binary32, of_bits}
 use lib.ListN.{length, drop}
 use contract.Lifetimes.{Lfts}
-use Rattle.table.specs.declared.Answer.{Answer}
+use Rattle.std.specs.Prelude.{Result, Ok, Err}
+use Rattle.table.specs.declared.TableError.{TableError}
 use Rattle.table.specs.declared.SignalIdsEngine.{SignalIdsEngine}
 use Rattle.table.specs.Calls.{defines, removes}
 use Rattle.frames.specs.Isolation.{tabled, framed}
@@ -27,10 +28,9 @@ LogFinite log = FiniteMeans log.engine
 abbrev MoveFinite : Move → Type 0
 MoveFinite m = LogFinite m.log
 
-settled_finite : (log : Log) (e : SignalIdsEngine) (a : Answer) → LogFinite log → FiniteMeans e → MoveFinite (settled_step log e a)
-settled_finite log e Answer.Done h k = k
-settled_finite log e (Answer.Slot n) h k = k
-settled_finite log e (Answer.Refused n) h k = h
+settled_finite : (log : Log) (e : SignalIdsEngine) (a : Result Unit TableError) → LogFinite log → FiniteMeans e → MoveFinite (settled_step log e a)
+settled_finite log e (Ok done) h k = k
+settled_finite log e (Err n) h k = h
 
 wait_finite : (ended : Bool) (log : Log) (n : ℕ) → LogFinite log → MoveFinite (wait_step ended log n)
 wait_finite true log n h = h

@@ -18,6 +18,7 @@ use Rattle.frames.specs.declared.CanFrame.{CanFrame}
 use Rattle.frames.specs.declared.SignalAnomaly.{SignalAnomaly}
 use Rattle.frames.specs.Frames.{effective_of, applies, blank_anomaly, Framed}
 use Rattle.frames.proofs.Remote.{remote_frame, none_listed}
+use Rattle.std.specs.Prelude.{Option, Some, None}
 use Rattle.can_log.specs.declared.decode.Mark.{Mark}
 use Rattle.can_log.specs.declared.stream.Log.{Log}
 use Rattle.can_log.specs.Records.{Front, le16, le32, flag, bad_flags, mark_of, size_of, misplaced, settings_of, define_of, remove_of, frame_of, fd_length, fd_frame_of, record_of, item_of}
@@ -55,15 +56,15 @@ RemoteClassic (Front.definition d) = Unit {0}
 RemoteClassic (Front.removal k) = Unit {0}
 RemoteClassic (Front.frame h) = h.is_remote ≡ true → h.is_fd ≡ false
 
-record_remote : (s : List ℕ) (k : Mark) → RemoteClassic (record_of s k)
+record_remote : (s : List ℕ) (k : Option Mark) → RemoteClassic (record_of s k)
 unfolding settings_of define_of remove_of frame_of fd_frame_of
-record_remote s Mark.Settings = tt
-record_remote s Mark.Definition = choose RemoteClassic (bad_flags (get_or s 6 0) (le16 s 22)) _ _ (λ _. tt) (λ _. tt)
-record_remote s Mark.Removal = tt
-record_remote s Mark.Frame = choose RemoteClassic (leb 4 (get_or s 2 0)) _ _ (λ _. tt) (λ _. choose RemoteClassic (ltb 15 (get_or s 3 0)) _ _ (λ _. tt) (λ _ _. refl))
-record_remote s Mark.FdFrame =
+record_remote s (Some Mark.Settings) = tt
+record_remote s (Some Mark.Definition) = choose RemoteClassic (bad_flags (get_or s 6 0) (le16 s 22)) _ _ (λ _. tt) (λ _. tt)
+record_remote s (Some Mark.Removal) = tt
+record_remote s (Some Mark.Frame) = choose RemoteClassic (leb 4 (get_or s 2 0)) _ _ (λ _. tt) (λ _. choose RemoteClassic (ltb 15 (get_or s 3 0)) _ _ (λ _. tt) (λ _ _. refl))
+record_remote s (Some Mark.FdFrame) =
     choose RemoteClassic (leb 2 (get_or s 2 0)) _ _ (λ _. tt) (λ _. choose RemoteClassic (fd_length (get_or s 3 0)) _ _ (λ _ q. absurd (true≢false (sym q))) (λ _. tt))
-record_remote s Mark.Unknown = tt
+record_remote s None = tt
 
 item_remote : (n : ℕ) (s : List ℕ) → RemoteClassic (item_of n s)
 unfolding item_of

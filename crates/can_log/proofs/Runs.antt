@@ -13,11 +13,13 @@ use Rattle.frames.specs.declared.Processed.{Processed}
 use Rattle.frames.specs.declared.FrameHeader.{FrameHeader}
 use Rattle.frames.specs.Frames.{frame_with, Framed, processed_means}
 use Rattle.can_log.specs.declared.decode.Request.{Request}
+use Rattle.std.specs.Prelude.{Option, Some, None, Result, Ok, Err}
+use Rattle.can_log.specs.declared.decode.Stop.{Stop}
 use Rattle.can_log.specs.declared.decode.Item.{Item}
 use Rattle.can_log.specs.declared.stream.Log.{Log}
 use Rattle.can_log.specs.declared.stream.Status.{Status}
 use Rattle.can_log.specs.declared.stream.Step.{Step}
-use Rattle.can_log.specs.Records.{item_means, request_means, item_of}
+use Rattle.can_log.specs.Records.{stop_number, item_means, request_means, item_of}
 use Rattle.can_log.specs.Lines.{Put, anomaly_lines}
 use Rattle.can_log.specs.Output.{Standing, status_means, processed_by, data_size, frame_size, data_of, Move, step_of, goes_on, run, output_from, stop_step, wait_step, request_step, frame_step}
 use Rattle.can_log.specs.Pieces.{Does, run_on, advance_of, full_move, behind, after, sound_of}
@@ -83,6 +85,10 @@ module _ (room : ℕ) (e : Bool) (log : Log) (s : List ℕ) where
       let m = step_of e log s in
       rw (le-ltb room 512 h, q)
       (ap (behind m) (on_fuel (length s) (suc (length (drop m.used s))) (room - length m.text) e m.log (drop m.used s) (shorter e log s (length s) q (omega arith)) (omega arith)))
+
+-- a record that was found, as the code takes the answer apart
+pub found : {r : Result (Option Item) Stop} {a : Option Item} {b i : Item} → r ≡ Ok a → a ≡ Some b → b ≡ i → r ≡ Ok (Some i)
+found p q w = p ∙ ap (λ (x : Option Item). Ok x) (q ∙ ap (λ (x : Item). Some x) w)
 
 -- ---- the loop of `advance`: after some turns, t printed, the log at log, used bytes taken and end bytes written, the rest of the work is the run from there
 
@@ -204,22 +210,23 @@ module _ {s : List ℕ} {e : Bool} {d : List ℕ} {log₀ : Log} {out : List ℕ
         rw (q, ← here) (record { log = p.log; used = p.used; put = then w.put p.put; status = p.status })
 
     -- ---- by what stands at the front
-    module _ (i : Item) (found : item_means i ≡ item_of log.count (take (length s - used) (drop used s))) where
+    module _ (i : Result (Option Item) Stop) (found : item_means i ≡ item_of log.count (take (length s - used) (drop used s))) where
       front : item_means i ≡ item_of log.count (drop used s)
       front = found ∙ ap (item_of log.count) (part_all s used)
 
-      pub waits : i ≡ Item.Wait → {r : Step} {out' : List ℕ} → Does out end (after used (wait_step e log (length s - used))) r out'
+      pub waits : i ≡ Ok None → {r : Step} {out' : List ℕ} → Does out end (after used (wait_step e log (length s - used))) r out'
           → Does d 0 (advance_of (length d) e log₀ s) r out'
       waits q p =
           let l : length s - used ≡ length (drop used s) = sym (length-drop used s) in
-          last_turn (wait_step e log (length s - used)) (ap (wait_step e log) l ∙ at_item e log (drop used s) (item_means i) (item_means Item.Wait) front (ap item_means q)) (wait_last e log (length s - used)) p
+          last_turn (wait_step e log (length s - used)) (ap (wait_step e log) l ∙ at_item e log (drop used s) (item_means i) (item_means (Ok None)) front (ap item_means q)) (wait_last e log (length s - used)) p
 
-      pub stops : (k : ℕ) → i ≡ Item.Stop k → {r : Step} {out' : List ℕ} → Does out end (after used (stop_step log k)) r out'
+      pub stops : (why : Stop) → i ≡ Err why → (k : ℕ) → k ≡ stop_number why → {r : Step} {out' : List ℕ} → Does out end (after used (stop_step log k)) r out'
           → Does d 0 (advance_of (length d) e log₀ s) r out'
-      stops k q p = last_turn (stop_step log k) (at_item e log (drop used s) (item_means i) (item_means (Item.Stop k)) front (ap item_means q)) refl p
+      stops why q k n p =
+          last_turn (stop_step log k) (ap (stop_step log) n ∙ at_item e log (drop used s) (item_means i) (item_means (Err why)) front (ap item_means q)) refl p
 
       -- ---- a table call
-      module _ (c : Request) (q : i ≡ Item.Call c) where
+      module _ (c : Request) (q : i ≡ Ok (Some (Item.Call c))) where
         pub call_counts : log.count < 4294967295
         call_counts = counts_on log.count (drop used s) (item_means i) (request_means c) front (ap item_means q) w.few_enough (asks c)
 
@@ -243,12 +250,12 @@ module _ {s : List ℕ} {e : Bool} {d : List ℕ} {log₀ : Log} {out : List ℕ
               (record { log = p.log; used = ap (λ (j : ℕ). used + j) p.used; put = p.put; status = p.status })
 
       -- ---- a frame, with n data bytes
-      module _ (h : FrameHeader) (q : i ≡ Item.Frame h) (n : ℕ) (size : n ≡ data_size h) where
+      module _ (h : FrameHeader) (q : i ≡ Ok (Some (Item.Frame h))) (n : ℕ) (size : n ≡ data_size h) where
         pub frame_used : used + 8 + n ≤ length s
-        frame_used = omega (arith, size, has log.count (drop used s) (item_means i) (item_means (Item.Frame h)) front (ap item_means q), length-drop used s, w.got)
+        frame_used = omega (arith, size, has log.count (drop used s) (item_means i) (item_means (Ok (Some (Item.Frame h)))) front (ap item_means q), length-drop used s, w.got)
 
         pub frame_counts : log.count < 4294967295
-        frame_counts = counts_on log.count (drop used s) (item_means i) (item_means (Item.Frame h)) front (ap item_means q) w.few_enough (omega arith)
+        frame_counts = counts_on log.count (drop used s) (item_means i) (item_means (Ok (Some (Item.Frame h)))) front (ap item_means q) w.few_enough (omega arith)
 
         pub frame_less : length s - (used + 8 + n) < length s - used
         frame_less = omega (arith, frame_used)
@@ -267,7 +274,7 @@ module _ {s : List ℕ} {e : Bool} {d : List ℕ} {log₀ : Log} {out : List ℕ
           frame_here =
               ap (λ (k : ℕ). frame_step log (8 + k) (frame_with h lent)) size
               ∙ ap (λ (l : List ℕ). frame_step log (frame_size h) (frame_with h l)) lent_data
-              ∙ at_item e log (drop used s) (item_means i) (item_means (Item.Frame h)) front (ap item_means q)
+              ∙ at_item e log (drop used s) (item_means i) (item_means (Ok (Some (Item.Frame h)))) front (ap item_means q)
 
           -- its lines have room
           pub frame_room : (y.result.anomaly_count ≤ 8) × (end + 55 * y.result.anomaly_count ≤ length out)

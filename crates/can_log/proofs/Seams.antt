@@ -10,6 +10,7 @@ use lib.Seq.{drop-drop, drop-append-le, take-append-le}
 use lib.Dec.{ltb, eqb}
 use borrow.Author.Tests.{le-ltb, ltb-false, ne_eqb, eqb-true, eqb-false}
 use Rattle.frames.specs.Frames.{frame_with}
+use Rattle.std.specs.Prelude.{Option}
 use Rattle.can_log.specs.declared.decode.Mark.{Mark}
 use Rattle.can_log.specs.declared.stream.Log.{Log}
 use Rattle.can_log.specs.Records.{Front, item_of, marked, mark_of, size_of}
@@ -21,7 +22,7 @@ use Rattle.can_log.proofs.Runs.{output_step}
 
 -- ---- more bytes change nothing at the front but what is incomplete
 
-placed_stable : (n : ℕ) (s t : List ℕ) (k : Mark) → (marked n s k ≡ Front.incomplete) ⊎ (marked n (s ++ t) k ≡ marked n s k)
+placed_stable : (n : ℕ) (s t : List ℕ) (k : Option Mark) → (marked n s k ≡ Front.incomplete) ⊎ (marked n (s ++ t) k ≡ marked n s k)
 placed_stable n s t k = go (ltb (length s) (size_of k)) refl
   where
     go : (b : Bool) → ltb (length s) (size_of k) ≡ b → (marked n s k ≡ Front.incomplete) ⊎ (marked n (s ++ t) k ≡ marked n s k)

@@ -10,14 +10,16 @@ use lib.ListN.{length, take, get_or, length-take}
 use lib.Dec.{ltb, leb, eqb}
 use borrow.Author.Tests.{ltb-false, eqb-false}
 use Rattle.table.specs.declared.SignalIdsEngine.{SignalIdsEngine}
-use Rattle.table.specs.declared.Answer.{Answer}
+use Rattle.table.specs.declared.TableError.{TableError}
+use Rattle.table.specs.Table.{error_number}
 use Rattle.frames.specs.declared.CanFrame.{CanFrame}
+use Rattle.std.specs.Prelude.{Option, Some, None, Result, Ok, Err}
 use Rattle.can_log.specs.declared.decode.Mark.{Mark}
 use Rattle.can_log.specs.declared.decode.Request.{Request}
 use Rattle.can_log.specs.declared.stream.Log.{Log}
 use Rattle.can_log.specs.declared.stream.Step.{Step}
 use Rattle.can_log.specs.Records.{Front, request_means, item_of, marked, mark_of, size_of, misplaced, record_of, settings_of, define_of, remove_of, frame_of, classic_header, fd_length, fd_header, fd_frame_of, bad_flags, definition_of, le16}
-use Rattle.can_log.specs.Lines.{Put, ascii}
+use Rattle.can_log.specs.Lines.{slot_answer, done_answer, Put, ascii}
 use Rattle.can_log.specs.Output.{Standing, status_means, created_by, defined_by, removed_by, processed_by, frame_size, frame_at, Move, item_step, step_of, settled_step, request_step, frame_step, go_step, stop_step, wait_step, last_number, goes_on, waiting}
 use Rattle.can_log.specs.Pieces.{Does, after, sound_of}
 use Rattle.can_log.proofs.Texts.{line-length, answer_length, lines-length}
@@ -42,20 +44,20 @@ stop_or : (k m : ℕ) (b : Bool) (i : Front) → taken i ≤ m → taken (cond b
 stop_or k m true i h = omega arith
 stop_or k m false i h = h
 
-record_taken : (s : List ℕ) (k : Mark) → taken (record_of s k) ≤ size_of k
+record_taken : (s : List ℕ) (k : Option Mark) → taken (record_of s k) ≤ size_of k
 unfolding settings_of define_of remove_of frame_of fd_frame_of
-record_taken s Mark.Settings = omega arith
-record_taken s Mark.Definition = stop_or 13 24 (bad_flags (get_or s 6 0) (le16 s 22)) (Front.definition (definition_of s (get_or s 6 0))) (omega arith)
-record_taken s Mark.Removal = omega arith
-record_taken s Mark.Frame =
+record_taken s (Some Mark.Settings) = omega arith
+record_taken s (Some Mark.Definition) = stop_or 13 24 (bad_flags (get_or s 6 0) (le16 s 22)) (Front.definition (definition_of s (get_or s 6 0))) (omega arith)
+record_taken s (Some Mark.Removal) = omega arith
+record_taken s (Some Mark.Frame) =
     let i = Front.frame (classic_header s) in
     stop_or 13 16 (leb 4 (get_or s 2 0)) (cond (ltb 15 (get_or s 3 0)) (Front.fault 14) i) (stop_or 14 16 (ltb 15 (get_or s 3 0)) i (omega arith))
-record_taken s Mark.FdFrame =
+record_taken s (Some Mark.FdFrame) =
     let i = cond (fd_length (get_or s 3 0)) (Front.frame (fd_header s)) (Front.fault 14) in
     stop_or 13 72 (leb 2 (get_or s 2 0)) i (choose (λ (x : Front). taken x ≤ 72) (fd_length (get_or s 3 0)) _ _ (λ _. omega arith) (λ _. omega arith))
-record_taken s Mark.Unknown = omega arith
+record_taken s None = omega arith
 
-marked_taken : (n : ℕ) (s : List ℕ) (k : Mark) → taken (marked n s k) ≤ length s
+marked_taken : (n : ℕ) (s : List ℕ) (k : Option Mark) → taken (marked n s k) ≤ length s
 marked_taken n s k =
     choose (λ (i : Front). taken i ≤ length s) (ltb (length s) (size_of k)) _ _ (λ _. omega arith)
     (λ e. choose (λ (i : Front). taken i ≤ length s) (misplaced n k) _ _ (λ _. omega arith)
@@ -144,10 +146,9 @@ module _ (ended : Bool) (log : Log) where
   stop_bounds : (n k : ℕ) → Bounds ended log n (stop_step log k)
   stop_bounds n k = record { kind = inr (inl refl); takes = omega arith; prints = omega (arith, line-length (ascii "end ") log.count (ascii " ") k); counts = omega arith }
 
-  settled_bounds : (e : SignalIdsEngine) (a : Answer) → Bounds ended log 10 (settled_step log e a)
-  settled_bounds e Answer.Done = sound_bounds 10 [] e (omega arith) (omega arith)
-  settled_bounds e (Answer.Slot k) = sound_bounds 10 [] e (omega arith) (omega arith)
-  settled_bounds e (Answer.Refused k) = stop_bounds 10 k
+  settled_bounds : (e : SignalIdsEngine) (a : Result Unit TableError) → Bounds ended log 10 (settled_step log e a)
+  settled_bounds e (Ok done) = sound_bounds 10 [] e (omega arith) (omega arith)
+  settled_bounds e (Err k) = stop_bounds 10 (error_number k)
 
   frame_bounds : (size : ℕ) → 1 ≤ size → (f : CanFrame) → Bounds ended log size (frame_step log size f)
   frame_bounds size some f =
@@ -161,9 +162,9 @@ item_bounds false log s Front.incomplete = record { kind = inl (refl, refl); tak
 item_bounds ended log s (Front.fault k) = stop_bounds ended log 0 k
 item_bounds ended log s (Front.settings a t) = settled_bounds ended log (created_by a t).engine (created_by a t).answer
 item_bounds ended log s (Front.definition d) =
-    sound_bounds ended log 24 _ _ (omega arith) (omega (arith, answer_length (ascii "D ") (log.count + 1) (defined_by log.engine d).answer))
+    sound_bounds ended log 24 _ _ (omega arith) (omega (arith, answer_length (ascii "D ") (log.count + 1) (slot_answer (defined_by log.engine d).answer)))
 item_bounds ended log s (Front.removal k) =
-    sound_bounds ended log 4 _ _ (omega arith) (omega (arith, answer_length (ascii "R ") (log.count + 1) (removed_by log.engine k).answer))
+    sound_bounds ended log 4 _ _ (omega arith) (omega (arith, answer_length (ascii "R ") (log.count + 1) (done_answer (removed_by log.engine k).answer)))
 item_bounds ended log s (Front.frame h) = frame_bounds ended log (frame_size h) (omega arith) (frame_at h s)
 
 step_bounds : (ended : Bool) (log : Log) (s : List ℕ) → Bounds ended log (taken (item_of log.count s)) (step_of ended log s)

@@ -7,15 +7,16 @@ use native.Mathlib.Nat.{add-zero, one-le-pow, pow-le-pow_right}
 use native.Mathlib.Numerals.{add-one}
 use native.Mathlib.Omega.{arith}
 use native.Mathlib.Decide.{dec_lt}
-use lib.ListN.{length, take, set, get_or, length-append}
-use lib.Seq.{sets, take-suc, take_all, length-take-le}
+use lib.ListN.{length, take, drop, set, get_or, length-append}
+use lib.Seq.{sets, sets-eq, drop-drop, take-suc}
 use lib.Dec.{ltb}
+use borrow.Rule.Slice.PartMut.{put_mid}
 use borrow.Author.Tests.{lt-ltb, le-ltb}
 use Rattle.io.specs.Digits.{last_digits, IsDigitCount}
 use Rattle.can_log.specs.declared.lines.LogLine.{LogLine}
 use Rattle.can_log.specs.Lines.{Written, text_of, rendered_of, buffer_of, Put, ascii, dec, decimal, numbers, line, field, answer_line, anomaly_line, anomaly_lines, hex8}
 use lib.Ieee.{Float}
-use Rattle.table.specs.declared.Answer.{Answer}
+use Rattle.can_log.specs.declared.lines.Answer.{Answer}
 use Rattle.frames.specs.declared.SignalAnomaly.{SignalAnomaly}
 
 pub sets_append : (d : List ℕ) (i : ℕ) (t u : List ℕ) → sets d i (t ++ u) ≡ sets (sets d i t) (i + length t) u
@@ -23,11 +24,6 @@ sets_append d i [] u = ap (λ (k : ℕ). sets d k u) (sym (add-zero i))
 sets_append d i (a ∷ t) u =
     let e : suc i + length t ≡ i + suc (length t) = omega arith in
     sets_append (set d i a) (suc i) t u ∙ ap (λ (k : ℕ). sets (sets (set d i a) (suc i) t) k u) e
-
--- one store more: a turn of the loop that copies
-pub one_more : (d e s : List ℕ) (i j : ℕ) → j < length s → e ≡ sets d i (take j s) → set e (i + j) (get_or s j 0) ≡ sets d i (take (j + 1) s)
-one_more d e s i j h q =
-    rw (add-one, take-suc s j 0 h, sets_append, length-take-le j s (omega arith), ← q) refl
 
 -- a piece behind a piece
 pub then : {d e f t u : List ℕ} {i r q : ℕ} → Put d i t r e → Put e r u q f → Put d i (t ++ u) q f
@@ -79,8 +75,12 @@ unfolding dec
 dec-length zero n = omega arith
 dec-length (suc f) n = dec_more f n (ltb n 10) (dec-length f (n / 10))
 
-pub copied : (d e s : List ℕ) (i j : ℕ) → length s ≤ j → e ≡ sets d i (take j s) → e ≡ sets d i s
-copied d e s i j h q = q ∙ ap (λ (t : List ℕ). sets d i t) (take_all j s h)
+-- a text of n bytes that is copied into the middle of a buffer
+pub copied : (d : List ℕ) (at n k : ℕ) {t u : List ℕ} → n ≡ length t → k ≡ n → u ≡ t → at + n ≤ length d → Put d at t (at + n) (put_mid at k d u)
+copied d at n k {t} en ek eu h = record {
+  stop = ap (λ (j : ℕ). at + j) en;
+  done = rw (eu, ek, en, drop-drop) (sym (sets-eq t d at (omega arith) ∙ append_assoc (take at d) t (drop (at + length t) d)));
+}
 
 -- the text of a piece is known under another name
 pub named : {d e t u : List ℕ} {i r : ℕ} → t ≡ u → Put d i t r e → Put d i u r e

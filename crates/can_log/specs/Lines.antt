@@ -1,15 +1,17 @@
 -- Document 01, "The log": the lines that are printed, as lists of ASCII codes.
 -- Assumes nothing.
-use Rattle.std.specs.Prelude.{ℕ, zero, suc, ◌+◌, ◌/◌, ◌%◌, ◌≡◌, cond, List, [], ◌∷◌, ◌++◌, length, ltb, Float}
+use Rattle.std.specs.Prelude.{ℕ, zero, suc, ◌+◌, ◌/◌, ◌%◌, ◌≡◌, cond, List, [], ◌∷◌, ◌++◌, length, ltb, Float, Result, Ok, Err}
 use Prim.Native.Char.{code}
 use Prim.Native.String.{String, [] as «empty», ◌∷◌ as chars}
 use Rattle.std.proofs.lemmas.List.Edits.{sets}
 use Rattle.std.specs.Float.Ieee.{to_bits}
 use Rattle.std.specs.Float.{binary32}
-use Rattle.table.specs.declared.Answer.{Answer}
+use Rattle.table.specs.declared.TableError.{TableError}
+use Rattle.table.specs.Table.{error_number}
 use Rattle.frames.specs.declared.SignalAnomaly.{SignalAnomaly}
 use Rattle.can_log.specs.declared.lines.LogLine.{LogLine}
-use Rattle.can_log.specs.declared.lines.Rendered.{Rendered}
+use Rattle.can_log.specs.declared.lines.Answer.{Answer}
+use Rattle.can_log.specs.declared.lines.NoRoom.{NoRoom}
 
 abbrev pub ascii : String → List ℕ
 ascii «empty» = []
@@ -44,6 +46,15 @@ line letter n word k = numbers letter n word k ++ ascii "\n"
 abbrev pub field : List ℕ → Float → List ℕ
 field word x = word ++ hex8 (to_bits binary32 x)
 
+-- ---- what a line says of a table call: define's slot, success, or the number of a refusal
+abbrev pub slot_answer : Result ℕ TableError → Answer
+slot_answer (Ok slot) = Answer.Slot slot
+slot_answer (Err e) = Answer.Refused (error_number e)
+
+abbrev pub done_answer : Result Unit TableError → Answer
+done_answer (Ok done) = Answer.Done
+done_answer (Err e) = Answer.Refused (error_number e)
+
 -- ---- the lines: of a table call, the letter D or R and the record's number n
 abbrev pub answer_line : List ℕ → ℕ → Answer → List ℕ
 answer_line letter n (Answer.Slot k) = line letter n (ascii " slot ") k
@@ -75,10 +86,10 @@ pub data Written : Type 0 where
   wrote : ℕ → Written
   no_room : Written
 
--- what each case of `Rendered` means
-abbrev pub rendered_means : Rendered → Written
-rendered_means (Rendered.Length n) = wrote n
-rendered_means Rendered.NoRoom = no_room
+-- what each case of the answer means
+abbrev pub rendered_means : Result ℕ NoRoom → Written
+rendered_means (Ok n) = wrote n
+rendered_means (Err e) = no_room
 
 abbrev pub rendered_of : ℕ → LogLine → Written
 rendered_of room l = cond (ltb room 55) no_room (wrote (length (text_of l)))

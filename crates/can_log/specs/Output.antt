@@ -1,29 +1,30 @@
 -- Document 01, "The log", as amended by document 02, T-05: all that is printed for an input, `output`.
 -- Assumes nothing.
-use Rattle.std.specs.Prelude.{ℕ, zero, suc, ◌+◌, Bool, true, false, cond, List, [], ◌++◌, length, take, drop, eqb, Float}
+use Rattle.std.specs.Prelude.{ℕ, zero, suc, ◌+◌, Bool, true, false, cond, List, [], ◌++◌, length, take, drop, eqb, Float, Result, Ok, Err}
 use Rattle.std.specs.Float.Ieee.{of_bits}
 use Rattle.std.specs.Float.{binary32}
 use Rattle.conversion.specs.declared.SignalDefinition.{SignalDefinition}
 use Rattle.table.specs.declared.SignalIdsEngine.{SignalIdsEngine}
-use Rattle.table.specs.declared.Answer.{Answer}
+use Rattle.table.specs.declared.TableError.{TableError}
 use Rattle.table.specs.declared.Defined.{Defined}
-use Rattle.table.specs.Table.{table_of, created, defined, define', remove'}
+use Rattle.table.specs.Table.{error_number, table_of, created, defined, define', remove'}
 use Rattle.frames.specs.declared.FrameHeader.{FrameHeader}
 use Rattle.frames.specs.declared.CanFrame.{CanFrame}
 use Rattle.frames.specs.Frames.{frame_with, Framed, processed_frame}
+use Rattle.can_log.specs.declared.lines.Answer.{Answer}
 use Rattle.can_log.specs.declared.stream.Log.{Log}
 use Rattle.can_log.specs.declared.stream.Status.{Status}
 use Rattle.can_log.specs.Records.{Front, item_of}
-use Rattle.can_log.specs.Lines.{ascii, answer_line, anomaly_lines, end_line}
+use Rattle.can_log.specs.Lines.{ascii, slot_answer, done_answer, answer_line, anomaly_lines, end_line}
 
 -- ---- what the calls of the layers below answer, each under one name
-unfoldable pub created_by : Float → Float → Defined
+unfoldable pub created_by : Float → Float → Defined Unit
 created_by alpha threshold = created alpha threshold
 
-unfoldable pub defined_by : SignalIdsEngine → SignalDefinition → Defined
+unfoldable pub defined_by : SignalIdsEngine → SignalDefinition → Defined ℕ
 defined_by e d = defined e (define' (table_of e) d)
 
-unfoldable pub removed_by : SignalIdsEngine → ℕ → Defined
+unfoldable pub removed_by : SignalIdsEngine → ℕ → Defined Unit
 removed_by e slot = defined e (remove' (table_of e) slot)
 
 unfoldable pub processed_by : SignalIdsEngine → CanFrame → Framed
@@ -83,14 +84,13 @@ wait_step true log n = stop_step log (last_number n)
 wait_step false log n = waiting log
 
 -- settings that are refused are no sound record
-abbrev pub settled_step : Log → SignalIdsEngine → Answer → Move
-settled_step log e Answer.Done = go_step log 10 [] e
-settled_step log e (Answer.Slot k) = go_step log 10 [] e
-settled_step log e (Answer.Refused k) = stop_step log k
+abbrev pub settled_step : Log → SignalIdsEngine → Result Unit TableError → Move
+settled_step log e (Ok done) = go_step log 10 [] e
+settled_step log e (Err k) = stop_step log (error_number k)
 
 -- a table call, which is a sound record of n bytes also where it is refused
-abbrev pub called_step : Log → List ℕ → ℕ → Defined → Move
-called_step log letter n r = go_step log n (answer_line letter (log.count + 1) r.answer) r.engine
+abbrev pub called_step : Log → List ℕ → ℕ → SignalIdsEngine → Answer → Move
+called_step log letter n e a = go_step log n (answer_line letter (log.count + 1) a) e
 
 -- a frame, whose record has n bytes, prints a line for each listed anomaly
 abbrev pub frame_step : Log → ℕ → CanFrame → Move
@@ -116,8 +116,8 @@ abbrev pub item_step : Bool → Log → List ℕ → Front → Move
 item_step ended log s Front.incomplete = wait_step ended log (length s)
 item_step ended log s (Front.fault k) = stop_step log k
 item_step ended log s (Front.settings a t) = settled_step log (created_by a t).engine (created_by a t).answer
-item_step ended log s (Front.definition d) = called_step log (ascii "D ") 24 (defined_by log.engine d)
-item_step ended log s (Front.removal k) = called_step log (ascii "R ") 4 (removed_by log.engine k)
+item_step ended log s (Front.definition d) = called_step log (ascii "D ") 24 (defined_by log.engine d).engine (slot_answer (defined_by log.engine d).answer)
+item_step ended log s (Front.removal k) = called_step log (ascii "R ") 4 (removed_by log.engine k).engine (done_answer (removed_by log.engine k).answer)
 item_step ended log s (Front.frame h) = frame_step log (frame_size h) (frame_at h s)
 
 -- the same of a record for the table: neither the bytes behind it nor the end of the input matter

@@ -1,6 +1,6 @@
 -- Document 01, "The log", as amended by document 02, T-01 and T-05: the record at the front of the bytes, and what its bytes say.
 -- Assumes nothing.
-use Rattle.std.specs.Prelude.{ℕ, ◌+◌, ◌*◌, ◌/◌, ◌%◌, Bool, true, false, cond, not, ◌&&◌, ◌||◌, List, length, get_or, take, ltb, leb, eqb, Float}
+use Rattle.std.specs.Prelude.{ℕ, ◌+◌, ◌*◌, ◌/◌, ◌%◌, Bool, true, false, cond, not, ◌&&◌, ◌||◌, List, length, get_or, take, ltb, leb, eqb, Float, Option, Some, None, Result, Ok, Err}
 use Rattle.std.specs.Float.Ieee.{of_bits}
 use Rattle.std.specs.Float.{binary32}
 use Rattle.bits.specs.declared.ByteOrder.{ByteOrder}
@@ -10,6 +10,7 @@ use Rattle.frames.specs.declared.FrameHeader.{FrameHeader}
 use Rattle.can_log.specs.declared.decode.Mark.{Mark}
 use Rattle.can_log.specs.declared.decode.Request.{Request}
 use Rattle.can_log.specs.declared.decode.Item.{Item}
+use Rattle.can_log.specs.declared.decode.Stop.{Stop}
 
 -- ---- what may stand at the front of the bytes
 pub data Front : Type 0 where
@@ -23,36 +24,55 @@ pub data Front : Type 0 where
   removal : ℕ → Front
   frame : FrameHeader → Front
 
--- what each case of `Item` means
+-- document 01's number of each reason to stop
+abbrev pub stop_number : Stop → ℕ
+stop_number Stop.UnknownMark = 10
+stop_number Stop.Cut = 11
+stop_number Stop.Misplaced = 12
+stop_number Stop.BadFlags = 13
+stop_number Stop.BadLength = 14
+stop_number Stop.TooManyRecords = 15
+
+-- what each case of an answer means
 abbrev pub request_means : Request → Front
 request_means (Request.Settings alpha threshold) = settings alpha threshold
 request_means (Request.Define d) = definition d
 request_means (Request.Remove slot) = removal slot
 
-abbrev pub item_means : Item → Front
-item_means Item.Wait = incomplete
-item_means (Item.Call q) = request_means q
-item_means (Item.Frame h) = frame h
-item_means (Item.Stop k) = fault k
+abbrev pub item_means : Result (Option Item) Stop → Front
+item_means (Ok None) = incomplete
+item_means (Ok (Some (Item.Call q))) = request_means q
+item_means (Ok (Some (Item.Frame h))) = frame h
+item_means (Err e) = fault (stop_number e)
+
+-- a record, or why it is none, stands at the front
+abbrev pub in_front : Result Item Stop → Result (Option Item) Stop
+in_front (Ok i) = Ok (Some i)
+in_front (Err e) = Err e
 
 -- ---- the mark: A5 50, A5 44, A5 52, A5 46 or A5 58 (T-05)
-unfoldable pub mark_of : ℕ → ℕ → Mark
+unfoldable pub mark_of : ℕ → ℕ → Option Mark
 mark_of a b =
     cond (eqb a 0xA5)
-    (cond (eqb b 0x50) Mark.Settings
-    (cond (eqb b 0x44) Mark.Definition
-    (cond (eqb b 0x52) Mark.Removal
-    (cond (eqb b 0x46) Mark.Frame
-    (cond (eqb b 0x58) Mark.FdFrame Mark.Unknown))))) Mark.Unknown
+    (cond (eqb b 0x50) (Some Mark.Settings)
+    (cond (eqb b 0x44) (Some Mark.Definition)
+    (cond (eqb b 0x52) (Some Mark.Removal)
+    (cond (eqb b 0x46) (Some Mark.Frame)
+    (cond (eqb b 0x58) (Some Mark.FdFrame) None))))) None
+
+-- a mark that is none of these stops the log
+abbrev pub known : Option Mark → Result Mark Stop
+known (Some k) = Ok k
+known None = Err Stop.UnknownMark
 
 -- how many bytes a record has, its mark among them; an unknown mark is known by its two
-abbrev pub size_of : Mark → ℕ
-size_of Mark.Settings = 10
-size_of Mark.Definition = 24
-size_of Mark.Removal = 4
-size_of Mark.Frame = 16
-size_of Mark.FdFrame = 72
-size_of Mark.Unknown = 2
+abbrev pub size_of : Option Mark → ℕ
+size_of (Some Mark.Settings) = 10
+size_of (Some Mark.Definition) = 24
+size_of (Some Mark.Removal) = 4
+size_of (Some Mark.Frame) = 16
+size_of (Some Mark.FdFrame) = 72
+size_of None = 2
 
 -- ---- little-endian numbers at a place, and a float by its bits
 abbrev pub le16 : List ℕ → ℕ → ℕ
@@ -135,25 +155,25 @@ unfoldable pub fd_frame_of : List ℕ → Front
 fd_frame_of s = cond (leb 2 (get_or s 2 0)) (fault 13) (cond (fd_length (get_or s 3 0)) (frame (fd_header s)) (fault 14))
 
 -- ---- the record that a mark is the mark of, s being its bytes
-abbrev pub record_of : List ℕ → Mark → Front
-record_of s Mark.Settings = settings_of s
-record_of s Mark.Definition = define_of s
-record_of s Mark.Removal = remove_of s
-record_of s Mark.Frame = frame_of s
-record_of s Mark.FdFrame = fd_frame_of s
-record_of s Mark.Unknown = fault 10
+abbrev pub record_of : List ℕ → Option Mark → Front
+record_of s (Some Mark.Settings) = settings_of s
+record_of s (Some Mark.Definition) = define_of s
+record_of s (Some Mark.Removal) = remove_of s
+record_of s (Some Mark.Frame) = frame_of s
+record_of s (Some Mark.FdFrame) = fd_frame_of s
+record_of s None = fault 10
 
 -- after n sound records: the first has to be the settings, and no later one may be
-abbrev pub misplaced : ℕ → Mark → Bool
-misplaced n Mark.Settings = not (eqb n 0)
-misplaced n Mark.Definition = eqb n 0
-misplaced n Mark.Removal = eqb n 0
-misplaced n Mark.Frame = eqb n 0
-misplaced n Mark.FdFrame = eqb n 0
-misplaced n Mark.Unknown = false
+abbrev pub misplaced : ℕ → Option Mark → Bool
+misplaced n (Some Mark.Settings) = not (eqb n 0)
+misplaced n (Some Mark.Definition) = eqb n 0
+misplaced n (Some Mark.Removal) = eqb n 0
+misplaced n (Some Mark.Frame) = eqb n 0
+misplaced n (Some Mark.FdFrame) = eqb n 0
+misplaced n None = false
 
 -- behind a mark: a record that is cut waits for its rest, one at a wrong place stops with 12, and else its own bytes decide
-abbrev pub marked : ℕ → List ℕ → Mark → Front
+abbrev pub marked : ℕ → List ℕ → Option Mark → Front
 marked n s k = cond (ltb (length s) (size_of k)) incomplete (cond (misplaced n k) (fault 12) (record_of (take (size_of k) s) k))
 
 -- what stands at the front of the bytes, after n sound records. Whether the input ends where the bytes do is not asked here:

@@ -8,6 +8,6 @@ mod decode;
 mod lines;
 mod stream;
 
-pub use decode::{Item, Mark, Request, item_at_front};
-pub use lines::{LogLine, Rendered, render};
+pub use decode::{Item, Mark, Request, Stop, item_at_front};
+pub use lines::{Answer, LogLine, NoRoom, render};
 pub use stream::{Log, Status, Step, advance, start};

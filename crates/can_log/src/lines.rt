@@ -1,12 +1,47 @@
-// The lines of text, written into a lent buffer from a place on. Each answers the place behind what it wrote.
-ghost use Rattle.std.specs.Prelude.{◌≡◌, ◌+◌, ◌<◌, ◌≤◌, ◌*◌, length, take};
-ghost use Rattle.can_log.specs.Lines.{Put, upper, hex8, decimal, numbers, line, field, answer_line, anomaly_line, anomaly_lines, end_line, text_of, rendered_means, rendered_of, buffer_of};
+// The lines of text: each is built by itself, and then stands in a lent buffer from a place on.
+ghost use Rattle.std.specs.Prelude.{◌≡◌, ◌+◌, ◌<◌, ◌≤◌, ◌*◌, ℕ, List, [], ◌++◌, length, take};
+ghost use Rattle.can_log.specs.Lines.{slot_answer, done_answer, Put, upper, hex8, decimal, answer_line, anomaly_line, anomaly_lines, end_line, text_of, rendered_means, rendered_of, buffer_of};
 
 use conversion::bits_of_f32;
 use frames::SignalAnomaly;
-use table::Answer;
+use std::marker::Model;
+use table::TableError;
 
-// A line of the output, each with its record's number but the end line, which has the number of sound records.
+// What a line says of a table call: the slot that define gave, success, or document 01's number of a refusal. A number and no
+// `TableError`, since `render` takes any number.
+#[derive(Clone, Copy, PartialEq, Eq)]
+pub enum Answer {
+    Slot(u16),
+    Done,
+    Refused(u8),
+}
+
+impl From<Result<u16, TableError>> for Answer {
+    ghost from_gives = { λ r a. a ≡ slot_answer r };
+
+    // The answer of `define_signal`.
+    fn from(answer: Result<u16, TableError>) -> Answer {
+        match answer {
+            Ok(slot) => Answer::Slot(slot),
+            Err(error) => Answer::Refused(u8::from(error)),
+        }
+    }
+}
+
+impl From<Result<(), TableError>> for Answer {
+    ghost from_gives = { λ r a. a ≡ done_answer r };
+
+    // The answer of the other table calls.
+    fn from(answer: Result<(), TableError>) -> Answer {
+        match answer {
+            Ok(()) => Answer::Done,
+            Err(error) => Answer::Refused(u8::from(error)),
+        }
+    }
+}
+
+// A line of the output, each with its record's number but the end line, which has the number of sound records. The stopping number
+// is a number and no `Stop`, since `render` takes any.
 #[derive(Clone, Copy)]
 pub enum LogLine {
     Defined(u32, Answer),
@@ -15,25 +50,74 @@ pub enum LogLine {
     End(u32, u8),
 }
 
-#[derive(Clone, Copy)]
-pub enum Rendered {
-    // so many bytes were written
-    Length(usize),
-    // the buffer is shorter than a line may be, and is as it was
-    NoRoom,
+// The buffer is shorter than a line may be, and is as it was.
+#[derive(Clone, Copy, PartialEq, Eq)]
+pub struct NoRoom;
+
+// A line while it is built, of at most 55 bytes: no line is longer.
+#[derive(Drop)]
+struct Line {
+    bytes: [u8; 55],
+    len: usize,
 }
 
-// The text as it is.
-fn put(out: &mut [u8], at: usize, text: &[u8]) -> usize
-    requires { at + length text.now ≤ length out.old }
-    ensures { Put out.old at text.now result out.new }
-{
-    let mut i = 0;
-    while i < text.len() {
-        out[at + i] = text[i];
-        i += 1;
+// A line is seen as its bytes.
+impl Model for Line {
+    ghost Value = { List ℕ };
+
+    ghost view = { λ line. take line.len line.bytes };
+
+    ghost invariant = { λ line. line.len ≤ 55 };
+}
+
+impl Line {
+    fn new() -> Line
+        ensures { result ≡ [] }
+    {
+        Line {
+            bytes: [0; 55],
+            len: 0,
+        }
     }
-    at + i
+
+    // The text as it is.
+    fn put(&mut self, text: &[u8])
+        requires { length self.old + length text.now ≤ 55 }
+        ensures text { self.new ≡ self.old ++ text.now }
+        ensures len { length self.new ≡ length self.old + length text.now }
+    {
+        let end = self.len + text.len();
+        self.bytes[self.len..end].copy_from_slice(text);
+        self.len = end;
+    }
+
+    fn put_hex(&mut self, n: u32)
+        requires { length self.old + 8 ≤ 55 }
+        ensures text { self.new ≡ self.old ++ hex8 n }
+        ensures len { length self.new ≡ length self.old + 8 }
+    {
+        self.put(&hex(n));
+    }
+
+    fn put_decimal(&mut self, n: u32)
+        requires { length self.old + 10 ≤ 55 }
+        ensures text { self.new ≡ self.old ++ decimal n }
+        ensures len { length self.new ≤ length self.old + 10 }
+    {
+        let mut text = [0u8; 20];
+        let k = io::decimal(u64::from(n), &mut text);
+        self.put(&text[..k]);
+    }
+
+    // The line in a buffer from a place on, and the place behind it.
+    fn write(&self, out: &mut [u8], at: usize) -> usize
+        requires { at + length self.now ≤ length out.old }
+        ensures { Put out.old at self.now result out.new }
+    {
+        let end = at + self.len;
+        out[at..end].copy_from_slice(&self.bytes[..self.len]);
+        end
+    }
 }
 
 // An upper-case hexadecimal digit.
@@ -62,96 +146,75 @@ fn hex(n: u32) -> [u8; 8]
     ]
 }
 
-fn put_hex(out: &mut [u8], at: usize, n: u32) -> usize
-    requires { at + 8 ≤ length out.old }
-    ensures { Put out.old at (hex8 n) result out.new }
-{
-    let text = hex(n);
-    put(out, at, &text)
-}
-
-fn put_decimal(out: &mut [u8], at: usize, n: u32) -> usize
-    requires { at + 10 ≤ length out.old }
-    ensures { Put out.old at (decimal n) result out.new }
-{
-    let mut text = [0u8; 20];
-    let k = io::decimal(n as u64, &mut text);
-    put(out, at, &text[..k])
-}
-
-fn wide8(x: u8) -> u32
-    ensures { result ≡ x }
-{
-    x as u32
-}
-
-fn wide16(x: u16) -> u32
-    ensures { result ≡ x }
-{
-    x as u32
-}
-
-// A word, the record's number, a word and a number.
-fn put_numbers(out: &mut [u8], at: usize, letter: &[u8], n: u32, word: &[u8], k: u32) -> usize
-    requires { at + length letter.now + length word.now + 20 ≤ length out.old }
-    ensures { Put out.old at (numbers letter.now n word.now k) result out.new }
-{
-    let a = put(out, at, letter);
-    let b = put_decimal(out, a, n);
-    let c = put(out, b, word);
-    put_decimal(out, c, k)
-}
-
-// The same with the line's end.
-fn put_line(out: &mut [u8], at: usize, letter: &[u8], n: u32, word: &[u8], k: u32) -> usize
-    requires { at + length letter.now + length word.now + 21 ≤ length out.old }
-    ensures { Put out.old at (line letter.now n word.now k) result out.new }
-{
-    let a = put_numbers(out, at, letter, n, word, k);
-    put(out, a, b"\n")
-}
-
-// A word and a float's bits.
-fn put_field(out: &mut [u8], at: usize, word: &[u8], x: f32) -> usize
-    requires { at + length word.now + 8 ≤ length out.old }
-    ensures { Put out.old at (field word.now x) result out.new }
-{
-    let a = put(out, at, word);
-    put_hex(out, a, bits_of_f32(x))
-}
-
 // The line of a table call, whose letter is D or R.
-pub(crate) fn put_answer(out: &mut [u8], at: usize, letter: &[u8], n: u32, answer: Answer) -> usize
-    requires { at + length letter.now + 30 ≤ length out.old }
-    ensures { Put out.old at (answer_line letter.now n answer) result out.new }
+fn answer_line(letter: &[u8], n: u32, answer: Answer) -> Line
+    requires { length letter.now ≤ 25 }
+    ensures text { result ≡ answer_line letter.now n answer }
+    ensures len { length result ≤ length letter.now + 30 }
 {
+    let mut line = Line::new();
+    line.put(letter);
+    line.put_decimal(n);
     match answer {
-        Answer::Slot(k) => put_line(out, at, letter, n, b" slot ", wide16(k)),
-        Answer::Done => {
-            let a = put(out, at, letter);
-            let b = put_decimal(out, a, n);
-            put(out, b, b" ok\n")
+        Answer::Slot(k) => {
+            line.put(b" slot ");
+            line.put_decimal(u32::from(k));
+            line.put(b"\n");
         }
-        Answer::Refused(k) => put_line(out, at, letter, n, b" refused ", wide8(k)),
+        Answer::Done => line.put(b" ok\n"),
+        Answer::Refused(k) => {
+            line.put(b" refused ");
+            line.put_decimal(u32::from(k));
+            line.put(b"\n");
+        }
     }
+    line
 }
 
 // The end line: the number of sound records, and the stopping number.
+fn end_line(n: u32, k: u8) -> Line
+    ensures text { result ≡ end_line n k }
+    ensures len { length result ≤ 26 }
+{
+    let mut line = Line::new();
+    line.put(b"end ");
+    line.put_decimal(n);
+    line.put(b" ");
+    line.put_decimal(u32::from(k));
+    line.put(b"\n");
+    line
+}
+
+fn anomaly_line(n: u32, x: SignalAnomaly) -> Line
+    ensures text { result ≡ anomaly_line n x }
+    ensures len { length result ≤ 55 }
+{
+    let mut line = Line::new();
+    line.put(b"F ");
+    line.put_decimal(n);
+    line.put(b" slot ");
+    line.put_decimal(u32::from(x.slot));
+    line.put(b" z ");
+    line.put_hex(bits_of_f32(x.z_score));
+    line.put(b" value ");
+    line.put_hex(bits_of_f32(x.physical_value));
+    line.put(b"\n");
+    line
+}
+
+pub(crate) fn put_answer(out: &mut [u8], at: usize, letter: &[u8], n: u32, answer: Answer) -> usize
+    requires room { at + length letter.now + 30 ≤ length out.old }
+    requires letter { length letter.now ≤ 25 }
+    ensures { Put out.old at (answer_line letter.now n answer) result out.new }
+{
+    answer_line(letter, n, answer).write(out, at)
+}
+
 pub(crate) fn put_end(out: &mut [u8], at: usize, n: u32, k: u8) -> usize
     requires { at + 26 ≤ length out.old }
     ensures { Put out.old at (end_line n k) result out.new }
 {
-    put_line(out, at, b"end ", n, b" ", wide8(k))
-}
-
-fn put_anomaly(out: &mut [u8], at: usize, n: u32, x: SignalAnomaly) -> usize
-    requires { at + 55 ≤ length out.old }
-    ensures { Put out.old at (anomaly_line n x) result out.new }
-{
-    let a = put_numbers(out, at, b"F ", n, b" slot ", wide16(x.slot));
-    let b = put_field(out, a, b" z ", x.z_score);
-    let c = put_field(out, b, b" value ", x.physical_value);
-    put(out, c, b"\n")
+    end_line(n, k).write(out, at)
 }
 
 // A line for each of the first `count` anomalies.
@@ -165,36 +228,33 @@ pub(crate) fn put_anomalies(
     requires { (count ≤ 8) × (at + 55 * count ≤ length out.old) }
     ensures { Put out.old at (anomaly_lines n (take count list)) result out.new }
 {
-    let mut i = 0;
     let mut end = at;
-    while i < count {
-        let x = list[i];
-        end = put_anomaly(out, end, n, x);
-        i += 1;
+    for x in &list[..count] {
+        end = anomaly_line(n, *x).write(out, end);
     }
     end
 }
 
 // Any line.
-fn put_text(out: &mut [u8], at: usize, text: LogLine) -> usize
-    requires { at + 55 ≤ length out.old }
-    ensures { Put out.old at (text_of text) result out.new }
+fn line_of(text: LogLine) -> Line
+    ensures text { result ≡ text_of text }
+    ensures len { length result ≤ 55 }
 {
     match text {
-        LogLine::Defined(n, answer) => put_answer(out, at, b"D ", n, answer),
-        LogLine::Removed(n, answer) => put_answer(out, at, b"R ", n, answer),
-        LogLine::Anomaly(n, x) => put_anomaly(out, at, n, x),
-        LogLine::End(n, k) => put_end(out, at, n, k),
+        LogLine::Defined(n, answer) => answer_line(b"D ", n, answer),
+        LogLine::Removed(n, answer) => answer_line(b"R ", n, answer),
+        LogLine::Anomaly(n, x) => anomaly_line(n, x),
+        LogLine::End(n, k) => end_line(n, k),
     }
 }
 
 // The line at the front of the buffer, which has to have 55 bytes: no line is longer.
-pub fn render(text: LogLine, out: &mut [u8]) -> Rendered
+pub fn render(text: LogLine, out: &mut [u8]) -> Result<usize, NoRoom>
     ensures result_value { rendered_means result ≡ rendered_of (length out.old) text }
     ensures out_after { out.new ≡ buffer_of out.old text }
 {
     if out.len() < 55 {
-        return Rendered::NoRoom;
+        return Err(NoRoom);
     }
-    Rendered::Length(put_text(out, 0, text))
+    Ok(line_of(text).write(out, 0))
 }

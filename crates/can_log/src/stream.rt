@@ -4,10 +4,10 @@ ghost use Rattle.can_log.specs.Records.{request_means};
 ghost use Rattle.can_log.specs.Output.{start_of, data_size, status_means, goes_on, last_number, stop_step, wait_step, settled_step, called_step, request_step};
 ghost use Rattle.can_log.specs.Pieces.{Does, after, answer_of, sound_of, advance_of};
 
-use crate::decode::{Item, Request, item_at_front};
-use crate::lines::{put_anomalies, put_answer, put_end};
+use crate::decode::{Item, Request, Stop, item_at_front};
+use crate::lines::{Answer, put_anomalies, put_answer, put_end};
 use frames::{FrameHeader, process_lent_frame};
-use table::{Answer, Defined, SignalIdsEngine};
+use table::{Defined, SignalIdsEngine};
 
 // No record is begun with less room: none prints more than eight lines of at most 55 bytes.
 const ROOM: usize = 512;
@@ -19,7 +19,7 @@ pub struct Log {
     pub engine: SignalIdsEngine,
 }
 
-#[derive(Clone, Copy)]
+#[derive(Clone, Copy, PartialEq, Eq)]
 pub enum Status {
     // a record was taken, and the next may follow; no call ends so
     Going,
@@ -29,6 +29,15 @@ pub enum Status {
     Full,
     // the log has stopped, and its end line is written
     Ended,
+}
+
+impl Status {
+    // Whether the next record may follow.
+    fn goes_on(self) -> bool
+        ensures { result ≡ goes_on (status_means self) }
+    {
+        matches!(self, Status::Going)
+    }
 }
 
 #[derive(Clone, Copy)]
@@ -46,8 +55,10 @@ pub fn start() -> Log
     ensures { result ≡ start_of }
 {
     let made = SignalIdsEngine::new(0.0, 0.0);
-    let engine = made.engine;
-    Log { count: 0, engine }
+    Log {
+        count: 0,
+        engine: made.engine,
+    }
 }
 
 // What a call answers.
@@ -67,9 +78,8 @@ fn sound(log: Log, engine: SignalIdsEngine, used: usize, end: usize) -> Step
     requires { log.count < 4294967295 }
     ensures { result ≡ sound_of log engine used end }
 {
-    let n = log.count;
     let next = Log {
-        count: n + 1,
+        count: log.count + 1,
         engine,
     };
     answer(next, used, end, Status::Going)
@@ -86,10 +96,7 @@ fn data_size(header: FrameHeader) -> usize
 fn last_number(left: usize) -> u8
     ensures { result ≡ last_number left }
 {
-    if left == 0 {
-        return 0;
-    }
-    11
+    if left == 0 { 0 } else { u8::from(Stop::Cut) }
 }
 
 // The log stops, `used` bytes having been taken before.
@@ -97,8 +104,7 @@ fn on_stop(log: Log, used: usize, k: u8, out: &mut [u8], at: usize) -> Step
     requires { at + 26 ≤ length out.old }
     ensures { Does out.old at (after used (stop_step log k)) result out.new }
 {
-    let n = log.count;
-    let end = put_end(out, at, n, k);
+    let end = put_end(out, at, log.count, k);
     answer(log, used, end, Status::Ended)
 }
 
@@ -114,28 +120,30 @@ fn on_wait(log: Log, used: usize, left: usize, ended: bool, out: &mut [u8], at: 
 }
 
 // Settings that are refused stop the log.
-fn on_settled(log: Log, made: Defined, out: &mut [u8], at: usize) -> Step
+fn on_settled(log: Log, made: Defined<()>, out: &mut [u8], at: usize) -> Step
     requires { (log.count < 4294967295) × (at + 26 ≤ length out.old) }
     ensures { Does out.old at (settled_step log made.engine made.answer) result out.new }
 {
-    let engine = made.engine;
-    let answer = made.answer;
-    match answer {
-        Answer::Slot(_) => sound(log, engine, 10, at),
-        Answer::Done => sound(log, engine, 10, at),
-        Answer::Refused(k) => on_stop(log, 0, k, out, at),
+    match made.answer {
+        Ok(()) => sound(log, made.engine, 10, at),
+        Err(error) => on_stop(log, 0, u8::from(error), out, at),
     }
 }
 
 // A table call is answered in a line, refused or not.
-fn on_called(log: Log, done: Defined, letter: &[u8], used: usize, out: &mut [u8], at: usize) -> Step
+fn on_called(
+    log: Log,
+    engine: SignalIdsEngine,
+    answer: Answer,
+    letter: &[u8],
+    used: usize,
+    out: &mut [u8],
+    at: usize,
+) -> Step
     requires { (log.count < 4294967295) × (length letter.now ≡ 2) × (at + 32 ≤ length out.old) }
-    ensures { Does out.old at (called_step log letter.now used done) result out.new }
+    ensures { Does out.old at (called_step log letter.now used engine answer) result out.new }
 {
-    let n = log.count;
-    let engine = done.engine;
-    let answer = done.answer;
-    let end = put_answer(out, at, letter, n + 1, answer);
+    let end = put_answer(out, at, letter, log.count + 1, answer);
     sound(log, engine, used, end)
 }
 
@@ -144,32 +152,34 @@ fn on_request(log: Log, q: Request, out: &mut [u8], at: usize) -> Step
     requires { (log.count < 4294967295) × (at + 32 ≤ length out.old) }
     ensures { Does out.old at (request_step log (request_means q)) result out.new }
 {
-    let engine = log.engine;
     match q {
         Request::Settings(alpha, threshold) => {
-            let made = SignalIdsEngine::new(alpha, threshold);
-            on_settled(log, made, out, at)
+            on_settled(log, SignalIdsEngine::new(alpha, threshold), out, at)
         }
         Request::Define(d) => {
-            let done = engine.define_signal(d);
-            on_called(log, done, b"D ", 24, out, at)
+            let done = log.engine.define_signal(d);
+            on_called(
+                log,
+                done.engine,
+                Answer::from(done.answer),
+                b"D ",
+                24,
+                out,
+                at,
+            )
         }
         Request::Remove(slot) => {
-            let done = engine.remove_signal(slot);
-            on_called(log, done, b"R ", 4, out, at)
+            let done = log.engine.remove_signal(slot);
+            on_called(
+                log,
+                done.engine,
+                Answer::from(done.answer),
+                b"R ",
+                4,
+                out,
+                at,
+            )
         }
-    }
-}
-
-// Whether the next record may follow.
-fn goes_on(status: Status) -> bool
-    ensures { result ≡ goes_on (status_means status) }
-{
-    match status {
-        Status::Going => true,
-        Status::Waiting => false,
-        Status::Full => false,
-        Status::Ended => false,
     }
 }
 
@@ -183,32 +193,34 @@ pub fn advance(log: Log, s: &[u8], ended: bool, out: &mut [u8]) -> Step
     let mut end = 0;
     while out.len() - end >= ROOM {
         match item_at_front(count, &s[used..]) {
-            Item::Wait => {
+            Ok(None) => {
                 return on_wait(Log { count, engine }, used, s.len() - used, ended, out, end);
             }
-            Item::Stop(k) => return on_stop(Log { count, engine }, used, k, out, end),
-            Item::Call(q) => {
+            Err(stop) => return on_stop(Log { count, engine }, used, u8::from(stop), out, end),
+            Ok(Some(Item::Call(q))) => {
                 let r = on_request(Log { count, engine }, q, out, end);
-                let next = r.log;
-                let status = r.status;
                 used += r.used;
                 end = r.end;
-                if !goes_on(status) {
-                    return answer(next, used, end, status);
+                if !r.status.goes_on() {
+                    return answer(r.log, used, end, r.status);
                 }
-                engine = next.engine;
-                count = next.count;
+                engine = r.log.engine;
+                count = r.log.count;
             }
-            Item::Frame(header) => {
+            Ok(Some(Item::Frame(header))) => {
                 let at = used + 8;
                 let behind = at + data_size(header);
                 let done = process_lent_frame(engine, header, &s[at..behind]);
                 engine = done.engine;
-                let result = done.result;
-                let listed = result.anomalies;
                 count += 1;
                 used = behind;
-                end = put_anomalies(out, end, count, listed, result.anomaly_count);
+                end = put_anomalies(
+                    out,
+                    end,
+                    count,
+                    done.result.anomalies,
+                    done.result.anomaly_count,
+                );
             }
         }
     }

@@ -3,29 +3,30 @@ use Rattle.std.proofs.Common.{◌≡◌, cond, eqb, sym, refl, ap, ◌∙◌}
 use Rattle.bits.proofs.Promise.{Determines}
 use Rattle.bits.proofs.Theorems.{raw_settled}
 use Rattle.conversion.specs.Extract.{Measured, measured, unmeasured, extracted_means}
-use Rattle.conversion.specs.declared.Extracted.{Extracted}
-use Rattle.conversion.specs.declared.Extracted.TheVariants.{Value, BadLength, Outside, NotFinite}
+use Rattle.std.specs.Prelude.{Result, Ok, Err, Float}
+use Rattle.conversion.specs.declared.ExtractError.{ExtractError}
+use Rattle.conversion.specs.declared.ExtractError.TheVariants.{BadLength, Outside, NotFinite}
 use Rattle.conversion.proofs.is_finite.Reads as is_finite
 use Rattle.conversion.proofs.f32_of_bits.Reads as f32-of-bits
 use Rattle.conversion.proofs.bits_of_f32.Reads as bits-of-f32
 use Rattle.conversion.proofs.nearest_u64.Reads as nearest-u64
 use Rattle.conversion.proofs.nearest_i64.Reads as nearest-i64
-use Rattle.conversion.proofs.SignalDefinition.default.Reads as default
+use Rattle.conversion.proofs.SignalDefinitionDefault.default.Reads as default
 use Rattle.conversion.proofs.extract_signal_raw.Reads as extract-signal-raw
 use Rattle.conversion.proofs.extract_signal.Reads as extract-signal
 
 -- the meaning of an answer tells all answers apart
-abbrev extracted_for : Measured → Extracted
-extracted_for (measured v) = Value v
-extracted_for (unmeasured k) = cond (eqb k 1) BadLength (cond (eqb k 16) Outside NotFinite)
+abbrev extracted_for : Measured → Result Float ExtractError
+extracted_for (measured v) = Ok v
+extracted_for (unmeasured k) = Err (cond (eqb k 1) BadLength (cond (eqb k 16) Outside NotFinite))
 
-same_extracted : (a : Extracted) → extracted_for (extracted_means a) ≡ a
-same_extracted (Value v) = refl
-same_extracted BadLength = refl
-same_extracted Outside = refl
-same_extracted NotFinite = refl
+same_extracted : (a : Result Float ExtractError) → extracted_for (extracted_means a) ≡ a
+same_extracted (Ok v) = refl
+same_extracted (Err BadLength) = refl
+same_extracted (Err Outside) = refl
+same_extracted (Err NotFinite) = refl
 
-pub extracted_settled : (a b : Extracted) → extracted_means a ≡ extracted_means b → a ≡ b
+pub extracted_settled : (a b : Result Float ExtractError) → extracted_means a ≡ extracted_means b → a ≡ b
 extracted_settled a b h = sym (same_extracted a) ∙ ap extracted_for h ∙ same_extracted b
 
 pub is_finite_determined : Determines is_finite.Learnt

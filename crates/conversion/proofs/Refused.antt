@@ -5,13 +5,14 @@ use lib.Ieee.{Float, nan, inf, fin, Format, mul, add}
 use lib.Ieee.Scale.{finite}
 use contract.Lifetimes.{Lfts}
 use Rattle.bits.specs.Signal.{turn, raw_of, sized}
-use Rattle.bits.specs.declared.Raw.{Raw}
+use Rattle.std.specs.Prelude.{Result}
+use Rattle.bits.specs.declared.RawError.{RawError}
 use Rattle.bits.specs.Answers.{raw_means}
 use Rattle.bits.specs.Answers.Answer.{refused}
 use Rattle.bits.proofs.Theorems.{is_read, length_refused, outside_refused, refused_by_lem}
 use Rattle.conversion.specs.Extract.{measured, unmeasured, extracted_means, finite_only, physical_of, raw_signal, value_of, signal_of}
 use Rattle.conversion.specs.declared.SignalDefinition.{SignalDefinition}
-use Rattle.conversion.specs.declared.Extracted.{Extracted}
+use Rattle.conversion.specs.declared.ExtractError.{ExtractError}
 use Rattle.conversion.proofs.extract_signal_raw.Reads as extract-signal-raw
 use Rattle.conversion.proofs.extract_signal.Reads as extract-signal
 
@@ -37,7 +38,7 @@ bad_value signed L raw scale offset (inl e) = rw (e, times_nan, nan_plus)
 bad_value signed L raw scale offset (inr e) = rw (e, plus_nan)
 
 -- ---- the raw number
-module _ (κs : Lfts 1) («data» : Bor (List ℕ)) (len : ℕ) (d : SignalDefinition) (r : Raw) (out : _) (promised : extract-signal-raw.Learnt κs («data», (len, (d, tt))) r out) where
+module _ (κs : Lfts 1) («data» : Bor (List ℕ)) (len : ℕ) (d : SignalDefinition) (r : Result ℕ RawError) (out : _) (promised : extract-signal-raw.Learnt κs («data», (len, (d, tt))) r out) where
   -- 1 where the length is not 1 to 64
   pub raw_by_length : ((1 ≤ d.bit_length) × (d.bit_length ≤ 64) → ⊥) → raw_means r ≡ refused 1
   unfolding raw_signal
@@ -55,7 +56,7 @@ module _ (κs : Lfts 1) («data» : Bor (List ℕ)) (len : ℕ) (d : SignalDefin
   raw_refused_by k h = refused_by_lem «data».now len d.byte_order d.start_bit d.bit_length k (sym promised ∙ h)
 
 -- ---- the value
-module _ (κs : Lfts 1) («data» : Bor (List ℕ)) (len : ℕ) (d : SignalDefinition) (r : Extracted) (out : _) (promised : extract-signal.Learnt κs («data», (len, (d, tt))) r out) where
+module _ (κs : Lfts 1) («data» : Bor (List ℕ)) (len : ℕ) (d : SignalDefinition) (r : Result Float ExtractError) (out : _) (promised : extract-signal.Learnt κs («data», (len, (d, tt))) r out) where
   -- the definition's length, the count of its first bit, how many bytes there are, and the value that its bits make
   abbrev L : ℕ
   L = d.bit_length

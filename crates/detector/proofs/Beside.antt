@@ -9,7 +9,7 @@ use native.Mathlib.Nat.{mul_comm, mul_assoc, mul-mul-mul_comm, mul-pos, mul-le-m
 use native.Mathlib.Omega.{arith}
 use mathlib.Core.Bool.{Bool, true, false, true≢false, not, ◌&&◌, beq, cond}
 use lib.IntN.{ℤ, pos, negsuc}
-use lib.Dec.{T, leb, ltb, eqb, leb→le, nleb→lt, ltb→lt, lit<, lit≤}
+use lib.Dec.{T, leb, ltb, eqb, ltb→lt, lit<, lit≤}
 use lib.Pow.{pow-add, pow_pos, pow_mono, shl_lt}
 use lib.Ieee.{Float, nan, inf, fin, binary32, unlike, up, down, odd, units, round, sum, add, sub, mul, le, fits}
 use lib.Ieee.Fits.{down_pos, round_is, and_l, and_r, mul-fits, sub-fits}
@@ -19,7 +19,7 @@ use lib.Ieee.Positive.{above_of_le, positive_of_value, values_of_le}
 use lib.Ieee.Scale.{finite}
 use Rattle.detector.specs.declared.EwmaDetector.{EwmaDetector}
 use Rattle.detector.specs.Ewma.{zero32, one32, with_stats, new_mean, new_variance, kept_variance, one_more, rust_folded, folded, distance}
-use Rattle.detector.proofs.Told.{and_no, other}
+use Rattle.std.proofs.lemmas.Bool.{cases_lt, and_left, cond-false}
 use Rattle.detector.proofs.Floats.{round_zero, times_bad, bad_times, plus_bad, minus_bad}
 
 -- ---- the sign does not matter to the size of what is rounded, nor to whether it is finite
@@ -88,14 +88,6 @@ held s (suc m) e t =
       range = ltb→lt (suc m * up e) (2 ^ 128 * down e) (and_r (a && b && c) d t);
     }
 
--- one of the two holds
-at_most_or_above : (a b : ℕ) → (a ≤ b) ⊎ (b < a)
-at_most_or_above a b = go (leb a b) (leb→le a b) (nleb→lt a b)
-  where
-    go : (t : Bool) → (T t → a ≤ b) → (T (not t) → b < a) → (a ≤ b) ⊎ (b < a)
-    go true h k = inl (h tt)
-    go false h k = inr (k tt)
-
 -- 2 ^ k is a multiple of 2 ^ j
 multiple_of_power : (m j k : ℕ) → j ≤ k → m * 2 ^ k ≡ m * 2 ^ (k - j) * 2 ^ j
 multiple_of_power m j k h = ap (λ (x : ℕ). m * 2 ^ x) (sym (sub-add_cancel h)) ∙ ap (λ (x : ℕ). m * x) (pow-add 2 (k - j) j) ∙ sym (mul_assoc m (2 ^ (k - j)) (2 ^ j))
@@ -111,9 +103,9 @@ largest = 67108860 * 2 ^ 102
 at_most_largest : (m : ℕ) (e : ℤ) → Held m e → m * up e ≤ largest * down e
 at_most_largest m (negsuc k) h = tiny m largest (suc k) h.digits (lit≤ tt)
 at_most_largest m (pos k) h =
-    elim (at_most_or_above k 104) [
-      | inl l ↦ last m h.digits (mul-le-mul_left m (pow_mono l))
-      | inr l ↦
+    elim (cases_lt 104 k) [
+      | inr l ↦ last m h.digits (mul-le-mul_left m (pow_mono l))
+      | inl l ↦
           let e = multiple_of_power m 104 k (le_of_lt l) in
           last (m * 2 ^ (k - 104)) (lt_of_mul-lt-mul_right (2 ^ 104) (subst (λ (x : ℕ). x < 2 ^ 24 * 2 ^ 104) e h.range)) (le_of_eq e)
     ]
@@ -194,14 +186,14 @@ square_overflows_too : (s : Bool) (m : ℕ) (e : ℤ) (t : Bool) (n : ℕ) (d : 
     → finite (mul binary32 (fin s m e) (mul binary32 (fin t n d) (fin t n d))) ≡ false
 unfolding mul
 square_overflows_too s m e t n d hm hn f =
-    elim (at_most_or_above (n * up d) (down d)) [
-      | inl l ↦
+    elim (cases_lt (down d) (n * up d)) [
+      | inr l ↦
           absurd
           (up_to_limit (unlike s t) (m * up e * (n * up d)) (down e * down d) (mul-pos (down_pos e) (down_pos d))
           (le_trans (mul-le-mul_left (m * up e) l)
           (le_trans (over_common (m * up e) largest (down e) (down d) (at_most_largest m e hm)) (mul-le-mul_right (down e * down d) (lit≤ tt))))
           f)
-      | inr l ↦ go (le_of_lt l) (round binary32 (unlike t t) (n * up d * (n * up d)) (down d * down d)) refl
+      | inl l ↦ go (le_of_lt l) (round binary32 (unlike t t) (n * up d * (n * up d)) (down d * down d)) refl
     ]
   where
     go : down d ≤ n * up d → (z : Float) → round binary32 (unlike t t) (n * up d * (n * up d)) (down d * down d) ≡ z → finite (mul binary32 (fin s m e) z) ≡ false
@@ -269,9 +261,9 @@ zero_or_large : (n : ℕ) (d : ℤ) (m : ℕ) (e : ℤ) → n < 2 ^ 24 → m < 2
 zero_or_large n d m (negsuc k) hn hm big x w p = absurd (not-le_of_lt big (tiny m (2 ^ 102) (suc k) hm (lit≤ tt)))
 zero_or_large n (negsuc j) m (pos k) hn hm big x w p = beside_large (n * 1) (2 ^ suc j) (m * 2 ^ k) x (tiny n (2 ^ 24 * 2 ^ 64) (suc j) hn (lit≤ tt)) big w p
 zero_or_large n (pos j) m (pos k) hn hm big x w p =
-    elim (at_most_or_above j 63) [
-      | inl l ↦ beside_large (n * 2 ^ j) 1 (m * 2 ^ k) x (le_trans (mul-le-mul (le_of_lt hn) (pow_mono l)) (lit≤ tt)) big w p
-      | inr l ↦
+    elim (cases_lt 63 j) [
+      | inr l ↦ beside_large (n * 2 ^ j) 1 (m * 2 ^ k) x (le_trans (mul-le-mul (le_of_lt hn) (pow_mono l)) (lit≤ tt)) big w p
+      | inl l ↦
           let high : 64 ≤ k = lt_of_not-le (λ (g : k ≤ 63). not-le_of_lt big (le_trans (mul-le-mul (le_of_lt hm) (pow_mono g)) (lit≤ tt))) in
           multiples (n * 2 ^ (j - 64)) (m * 2 ^ (k - 64)) x
           (subst (λ (a : ℕ). Joined a (m * 2 ^ (k - 64) * 2 ^ 64) x) (mul-one (n * 2 ^ j) ∙ multiple_of_power n 64 j l)
@@ -334,9 +326,9 @@ module _ (s : Bool) (m : ℕ) (e : ℤ) (r : Bool) (n : ℕ) (d : ℤ) (mean : H
   any_distance : (q : Bool) (k : ℕ) (g : ℤ) → Held k g → Follows (fin s m e) (fin r n d) (sub binary32 (fin q k g) (fin s m e))
   unfolding sub
   any_distance q k g value =
-      elim (at_most_or_above (m * up e) (2 ^ 102 * down e)) [
-        | inl l ↦ small_mean (sub binary32 (fin q k g) (fin s m e)) l (sub-fits binary32 (fin q k g) (fin s m e))
-        | inr l ↦
+      elim (cases_lt (2 ^ 102 * down e) (m * up e)) [
+        | inr l ↦ small_mean (sub binary32 (fin q k g) (fin s m e)) l (sub-fits binary32 (fin q k g) (fin s m e))
+        | inl l ↦
             sum_rounds (Follows (fin s m e) (fin r n d)) q (k * up g * down e) (not s) (m * up e * down g) (down g * down e)
             (λ (o : Bool) (x : ℕ) (w : Joined (k * up g * down e) (m * up e * down g) x).
             large_distance o x (down g * down e) (mul-pos (down_pos g) (down_pos e)) (zero_or_large k g m e value.digits mean.digits l x w))
@@ -365,7 +357,7 @@ pub variance_stays_anyway : (d : EwmaDetector) (value : Float) → T (fits binar
     → finite (new_mean d (distance d value)) ≡ false → kept_variance d (new_variance d (distance d value)) ≡ d.variance
 variance_stays_anyway d value fm fa fv b =
     let v = new_variance d (distance d value) in
-    other v d.variance (and_no (le zero32 v) (bad_mean_bad_variance d value fm fa fv b))
+    cond-false _ v d.variance (and_left _ (le zero32 v) (bad_mean_bad_variance d value fm fa fv b))
 
 -- A fold that guards the mean and the variance each by itself is therefore the same fold.
 pub guarded_apart : (d : EwmaDetector) (value : Float) → T (fits binary32 d.mean) → T (fits binary32 d.alpha) → T (fits binary32 value)

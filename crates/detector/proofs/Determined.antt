@@ -1,13 +1,14 @@
 -- Two results that a promise of this crate allows are equal, for each public call. Assumes nothing.
 use mathlib.Core.Path.{◌≡◌, refl, sym, ap, ◌∙◌}
-use Rattle.detector.specs.declared.Made.{Made}
-use Rattle.detector.specs.declared.Made.TheVariants as made
-use Rattle.detector.specs.declared.Reset.{Reset}
-use Rattle.detector.specs.declared.Reset.TheVariants as reset
+use native.Mathlib.Omega.{arith}
+use Rattle.std.specs.Prelude.{Result, Ok, Err}
+use Rattle.detector.specs.declared.DetectorError.{DetectorError}
+use Rattle.detector.specs.declared.DetectorError.TheVariants.{BadSettings, BadFreezeDuration}
+use Rattle.detector.specs.declared.EwmaDetector.{EwmaDetector}
 use Rattle.detector.specs.declared.Verdict.{Verdict}
 use Rattle.detector.specs.declared.Verdict.TheVariants.{Ignored, First, Warming, Scored}
 use Rattle.detector.specs.declared.Updated.{Updated}
-use Rattle.detector.specs.Answers.{made_means, reset_means, verdict_means}
+use Rattle.detector.specs.Answers.{refusal_number, made_means, reset_means, verdict_means}
 use Rattle.detector.specs.Ewma.{Sampled, updated_means}
 use Rattle.bits.proofs.Promise.{Determines, DeterminesLent}
 use Rattle.detector.proofs.sqrt_approx.Reads as sqrt-approx
@@ -24,17 +25,20 @@ use Rattle.detector.proofs.update_in_place.Reads as update-in-place
 
 -- ---- the meaning of an answer tells all answers apart
 
-pub made-settled : (a b : Made) → made_means a ≡ made_means b → a ≡ b
-made-settled (made.Detector d) (made.Detector e) h = let same : d ≡ e = cc in ap made.Detector same
-made-settled made.Refused made.Refused h = refl
-made-settled (made.Detector d) made.Refused h = cc
-made-settled made.Refused (made.Detector e) h = cc
+pub refusal_settled : (a b : DetectorError) → refusal_number a ≡ refusal_number b → a ≡ b
+refusal_settled BadSettings BadSettings h = refl
+refusal_settled BadFreezeDuration BadFreezeDuration h = refl
+refusal_settled BadSettings BadFreezeDuration h = absurd (omega arith)
+refusal_settled BadFreezeDuration BadSettings h = absurd (omega arith)
 
-pub reset_settled : (a b : Reset) → reset_means a ≡ reset_means b → a ≡ b
-reset_settled (reset.Detector d) (reset.Detector e) h = let same : d ≡ e = cc in ap reset.Detector same
-reset_settled reset.Refused reset.Refused h = refl
-reset_settled (reset.Detector d) reset.Refused h = cc
-reset_settled reset.Refused (reset.Detector e) h = cc
+pub made-settled : (a b : Result EwmaDetector DetectorError) → made_means a ≡ made_means b → a ≡ b
+made-settled (Ok d) (Ok e) h = let same : d ≡ e = cc in ap Ok same
+made-settled (Err a) (Err b) h = let same : refusal_number a ≡ refusal_number b = cc in ap Err (refusal_settled a b same)
+made-settled (Ok d) (Err b) h = cc
+made-settled (Err a) (Ok e) h = cc
+
+pub reset_settled : (a b : Result EwmaDetector DetectorError) → reset_means a ≡ reset_means b → a ≡ b
+reset_settled = made-settled
 
 pub verdict_settled : (a b : Verdict) → verdict_means a ≡ verdict_means b → a ≡ b
 verdict_settled Ignored Ignored h = refl

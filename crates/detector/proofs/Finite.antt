@@ -1,8 +1,9 @@
 -- A score is finite, so never a NaN, whatever the detector and the sample. Assumes nothing.
 use mathlib.Core.Path.{◌≡◌, refl, sym, ap, ◌∙◌}
-use mathlib.Core.Bool.{Bool, true, false, cond}
+use mathlib.Core.Bool.{Bool, true}
 use lib.Ieee.{Float, binary32, div, lt, of_bits}
 use lib.Ieee.Scale.{finite}
+use Rattle.std.proofs.lemmas.Bool.{cond_both}
 use Rattle.detector.specs.declared.AnomalyScore.{AnomalyScore}
 use Rattle.detector.specs.declared.EwmaDetector.{EwmaDetector}
 use Rattle.detector.specs.Answers.{warming, scored}
@@ -18,32 +19,17 @@ unfolding of_bits
 largest_finite = refl
 
 scaled_finite : (threshold z : Float) → finite (scaled threshold z).z_score ≡ true
-scaled_finite threshold z = go (finite z) refl
-  where
-    go : (b : Bool) → finite z ≡ b → finite (cond {A = AnomalyScore} b (record { z_score = z; is_anomalous = lt threshold z }) (record { z_score = max32; is_anomalous = true })).z_score ≡ true
-    go true e = e
-    go false e = largest_finite
+scaled_finite threshold z = cond_both (finite z) _ _ (λ (s : AnomalyScore). finite s.z_score ≡ true) (λ e. e) (λ _. largest_finite)
 
 unscaled_finite : (a : Float) → finite (unscaled a).z_score ≡ true
-unscaled_finite a = go (lt eps32 a)
-  where
-    go : (b : Bool) → finite (cond b max32 zero32) ≡ true
-    go true = largest_finite
-    go false = zero_finite
+unscaled_finite a = cond_both (lt eps32 a) _ _ (λ z. finite z ≡ true) (λ _. largest_finite) (λ _. zero_finite)
 
 pub score_finite : (d : EwmaDetector) (diff : Float) → finite (score_of d diff).z_score ≡ true
 unfolding score_of score_at
-score_finite d diff = go (lt least32 deviation)
-  where
-    deviation : Float
-    deviation = sqrt_approx (floored_variance d.mean d.variance)
-
-    a : Float
-    a = magnitude diff
-
-    go : (b : Bool) → finite (cond b (scaled d.z_threshold (div binary32 a deviation)) (unscaled a)).z_score ≡ true
-    go true = scaled_finite d.z_threshold (div binary32 a deviation)
-    go false = unscaled_finite a
+score_finite d diff =
+    let deviation : Float = sqrt_approx (floored_variance d.mean d.variance) in
+    let a : Float = magnitude diff in
+    cond_both (lt least32 deviation) _ _ (λ (s : AnomalyScore). finite s.z_score ≡ true) (λ _. scaled_finite d.z_threshold (div binary32 a deviation)) (λ _. unscaled_finite a)
 
 pub scored_finite : (d : EwmaDetector) (value z : Float) (flag : Bool) → (updated d value).said ≡ scored z flag → finite z ≡ true
 scored_finite d value z flag e = ap finite (was_scored d value z flag e).score ∙ score_finite d (distance d value)

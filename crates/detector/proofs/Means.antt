@@ -17,10 +17,10 @@ use Rattle.detector.specs.Answers.{Heard, ignored, first_sample, warming, scored
 use Rattle.detector.specs.Ewma.{Sampled, updated_means, zero32, with_stats, new_mean, one_more, rust_folded, folded, held, settled, distance, score_of, updated, fresh, idle, made_of}
 use Rattle.detector.specs.Calls.{Call, takes, resets, recalibrates, or_as_it_was, after, ran}
 use Rattle.detector.specs.Rust.{rust_settled, rust_updated, rust_after, rust_ran, amended}
-use Rattle.detector.proofs.Told.{chosen, other, or_next}
+use Rattle.std.proofs.lemmas.Bool.{or_from, cond-true, cond-false, cond_both}
 use Rattle.detector.proofs.Finite.{zero_finite}
 use Rattle.detector.proofs.Floats.{bad_plus}
-use Rattle.detector.proofs.Samples.{Past, Which, was_ignored, was_first, was_warming, was_past, which, not_finite_ignored, first_sample_lem, warming_folded, past_scored, anomalous, good_mean_stored, bad_mean_not_stored, either_recalibrated, either_reset}
+use Rattle.detector.proofs.Samples.{Past, Which, was_ignored, was_first, was_warming, was_past, which, not_finite_ignored, first_sample_lem, warming_folded, past_scored, anomalous, bad_mean_not_stored, either_recalibrated, either_reset}
 use Rattle.detector.proofs.update_in_place.Reads as update-in-place
 use Rattle.detector.proofs.Runs.{MadeBy, Step, Run, run_is, settings_have, step_keeps, run-has}
 use Rattle.detector.proofs.EwmaDetector.update.Reads as update
@@ -35,7 +35,7 @@ pub data Folds (d : EwmaDetector) (x : Float) : Type 0 where
 folds_is : (d : EwmaDetector) (x : Float) → finite x ≡ true → Folds d x → (updated d x).detector ≡ folded d (distance d x)
 unfolding settled
 folds_is d x f (in_warm_up some cold) = ap (λ (u : Sampled). u.detector) (warming_folded d x f some cold)
-folds_is d x f (past_it p still calm) = ap (λ (u : Sampled). u.detector) (past_scored d x p f) ∙ other _ _ (or_next still calm)
+folds_is d x f (past_it p still calm) = ap (λ (u : Sampled). u.detector) (past_scored d x p f) ∙ cond-false _ _ _ (or_from _ _ still calm)
 
 -- "A new mean that isn't finite is not to be stored; mean and variance then stay, and the count still rises."
 pub update_leaves_bad_mean : (κs : Lfts 0) (d : EwmaDetector) (x : Float) (r : Updated) (s : _)
@@ -53,19 +53,12 @@ abbrev pub FiniteMean : EwmaDetector → Type 0
 FiniteMean d = finite d.mean ≡ true
 
 folded_finite : (d : EwmaDetector) (diff : Float) → FiniteMean d → FiniteMean (folded d diff)
-folded_finite d diff m = go (finite (new_mean d diff)) refl
-  where
-    go : (b : Bool) → finite (new_mean d diff) ≡ b → FiniteMean (folded d diff)
-    go true f = subst FiniteMean (sym (good_mean_stored d diff f)) f
-    go false f = subst FiniteMean (sym (bad_mean_not_stored d diff f)) m
+unfolding folded
+folded_finite d diff m = cond_both (finite (new_mean d diff)) _ _ FiniteMean (λ f. f) (λ _. m)
 
 settled_finite : (d : EwmaDetector) (diff : Float) (flag : Bool) → FiniteMean d → FiniteMean (settled d diff flag)
 unfolding settled held
-settled_finite d diff flag m = go (d.frozen || flag)
-  where
-    go : (b : Bool) → FiniteMean (cond b (held d) (folded d diff))
-    go true = m
-    go false = folded_finite d diff m
+settled_finite d diff flag m = cond_both (d.frozen || flag) _ _ FiniteMean (λ _. m) (λ _. folded_finite d diff m)
 
 updated_finite : (d : EwmaDetector) (x : Float) → FiniteMean d → FiniteMean (updated d x).detector
 updated_finite d x m = go (which d x)
@@ -124,15 +117,11 @@ bad_mean_stays d x some f = go (which d x)
     from : {u : Sampled} → updated d x ≡ u → StatsStay d u.detector → StatsStay d (updated d x).detector
     from e t = subst (λ (u : Sampled). StatsStay d u.detector) (sym e) t
 
-    either : (b : Bool) → StatsStay d (cond b (held d) (folded d (distance d x)))
-    either true = record { mean = refl; variance = refl }
-    either false = bad_mean_fold d (distance d x) f
-
     go : Which d x → StatsStay d (updated d x).detector
     go (was_ignored g) = from (not_finite_ignored d x g) (record { mean = refl; variance = refl })
     go (was_first g n) = absurd (omega arith)
     go (was_warming g n w) = from (warming_folded d x g n w) (bad_mean_fold d (distance d x) f)
-    go (was_past g p) = from (past_scored d x p g) (either (d.frozen || anomalous d x))
+    go (was_past g p) = from (past_scored d x p g) (cond_both (d.frozen || anomalous d x) _ _ (StatsStay d) (λ _. record { mean = refl; variance = refl }) (λ _. bad_mean_fold d (distance d x) f))
 
 -- ---- a step is the Rust's step, amended where that leaves a mean that is not finite
 
@@ -181,13 +170,13 @@ as_amended d x = go (finite x) (eqb d.count 0) (ltb d.count d.warmup_count) refl
         (cond b (as_said first_sample (with_stats d x zero32 1))
         (cond c (as_said (warming zero32 false) (rust_folded d diff)) (as_said (scored_as (score_of d diff)) (rust_settled d diff (anomalous d x))))))
     go false b c f = unmoved d d ignored refl
-    go true true c f = sym (chosen _ _ f)
+    go true true c f = sym (cond-true _ _ _ f)
     go true false true f = folded-amended d diff (warming zero32 false)
     go true false false f = settled-amended d diff (anomalous d x) (scored_as (score_of d diff))
 
 -- "where the Rust's new mean is finite, the step is the Rust's, bit for bit": detector, score and flag, of every detector and every sample
 pub good_step_is_rust : (d : EwmaDetector) (x : Float) → finite (rust_updated d x).detector.mean ≡ true → updated d x ≡ rust_updated d x
-good_step_is_rust d x f = as_amended d x ∙ chosen _ _ f
+good_step_is_rust d x f = as_amended d x ∙ cond-true _ _ _ f
 
 -- and of what the compiled `update` answers
 pub update_is_rust : (κs : Lfts 0) (d : EwmaDetector) (x : Float) (r : Updated) (s : _)
@@ -208,7 +197,7 @@ lent_is_rust κs lent x r s p f =
 -- where it is not, the answer is still the Rust's, and so is all of the detector but its mean and variance
 pub bad_step_is_amended : (d : EwmaDetector) (x : Float) → finite (rust_updated d x).detector.mean ≡ false
     → updated d x ≡ as_said (rust_updated d x).said (with_stats (rust_updated d x).detector d.mean d.variance (rust_updated d x).detector.count)
-bad_step_is_amended d x f = as_amended d x ∙ other _ _ f
+bad_step_is_amended d x f = as_amended d x ∙ cond-false _ _ _ f
 
 -- ---- any calls, as long as each leaves the Rust a finite mean
 

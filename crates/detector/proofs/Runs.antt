@@ -1,23 +1,24 @@
 -- A run of compiled calls on one detector, that it is the run of the functions that their promises cite, and what it keeps if each call does. Assumes nothing.
 use mathlib.Core.Path.{◌≡◌, refl, sym, ap, ◌∙◌, subst}
 use mathlib.Core.List.{List, [], ◌∷◌}
-use mathlib.Core.Bool.{Bool, true, false, cond}
+use mathlib.Core.Bool.{Bool, true, false}
 use Prim.Native.Nat.{ℕ}
 use lib.Dec.{eqb}
 use lib.Ieee.{Float}
 use contract.Lifetimes.{Lfts}
 use denote.MutBor.{MutBor}
+use Rattle.std.specs.Prelude.{Ok, Err}
+use Rattle.detector.specs.declared.DetectorError.{DetectorError}
+use Rattle.detector.specs.declared.DetectorError.TheVariants.{BadFreezeDuration}
 use Rattle.detector.specs.declared.EwmaDetector.{EwmaDetector}
-use Rattle.detector.specs.declared.Made.TheVariants as made
-use Rattle.detector.specs.declared.Reset.TheVariants as reset
 use Rattle.detector.specs.declared.Updated.{Updated}
 use Rattle.detector.specs.declared.Verdict.{Verdict}
 use Rattle.detector.specs.declared.Verdict.TheVariants.{Ignored, First, Warming, Scored}
-use Rattle.detector.specs.Answers.{Configured, configured, unconfigured, reset_means}
+use Rattle.detector.specs.Answers.{Configured, configured, reset_means}
 use Rattle.detector.specs.Ewma.{Sampled, updated_means, updated, zero32, with_stats, folded, settled, score_of, distance, fresh, allowed, made_of, reset_of}
 use Rattle.detector.specs.Ewma as ewma
 use Rattle.detector.specs.Calls.{Call, takes, resets, recalibrates, or_as_it_was, after, ran}
-use Rattle.detector.proofs.Told.{chosen, other}
+use Rattle.std.proofs.lemmas.Bool.{cond-true, cond-false, cond_both}
 use Rattle.detector.proofs.Samples.{Which, was_ignored, was_first, was_warming, was_past, which, not_finite_ignored, first_sample_lem, warming_folded, past_scored, anomalous}
 use Rattle.detector.proofs.update_in_place.Reads as update-in-place
 use Rattle.detector.proofs.EwmaDetector.new.Reads as new
@@ -29,9 +30,9 @@ use Rattle.detector.proofs.EwmaDetector.recalibrate.Reads as recalibrate
 
 -- a call made the detector d; all that is known of it is what the call's promise tells
 pub data MadeBy (d : EwmaDetector) : Type 0 where
-  by_new : (κs : Lfts 0) (alpha threshold : Float) (s : _) → new.Learnt κs (alpha, (threshold, tt)) (made.Detector d) s → MadeBy d
+  by_new : (κs : Lfts 0) (alpha threshold : Float) (s : _) → new.Learnt κs (alpha, (threshold, tt)) (Ok d) s → MadeBy d
   by_with_options : (κs : Lfts 0) (alpha threshold : Float) (freeze warmup : ℕ) (s : _)
-      → with-options.Learnt κs (alpha, (threshold, (freeze, (warmup, tt)))) (made.Detector d) s
+      → with-options.Learnt κs (alpha, (threshold, (freeze, (warmup, tt)))) (Ok d) s
       → MadeBy d
   by_idle : (κs : Lfts 0) (s : _) → idle.Learnt κs tt d s → MadeBy d
 
@@ -43,8 +44,8 @@ pub data Step (d e : EwmaDetector) : Call → Type 0 where
       → lent.now ≡ d
       → e ≡ s.0.now
       → Step d e (takes x)
-  by_duration : (κs : Lfts 0) (k : ℕ) (s : _) → set-freeze-duration.Learnt κs (d, (k, tt)) (reset.Detector e) s → Step d e (resets k)
-  by_refused_duration : (κs : Lfts 0) (k : ℕ) (s : _) → set-freeze-duration.Learnt κs (d, (k, tt)) reset.Refused s → e ≡ d → Step d e (resets k)
+  by_duration : (κs : Lfts 0) (k : ℕ) (s : _) → set-freeze-duration.Learnt κs (d, (k, tt)) (Ok e) s → Step d e (resets k)
+  by_refused_duration : (κs : Lfts 0) (k : ℕ) (r : DetectorError) (s : _) → set-freeze-duration.Learnt κs (d, (k, tt)) (Err r) s → e ≡ d → Step d e (resets k)
   by_recalibrate : (κs : Lfts 0) (x : Float) (s : _) → recalibrate.Learnt κs (d, (x, tt)) e s → Step d e (recalibrates x)
 
 -- each call takes the detector that the one before it left
@@ -56,7 +57,7 @@ pub step_is : {d e : EwmaDetector} {c : Call} → Step d e c → e ≡ after d c
 step_is (by_update κs x r s p h) = h ∙ ap (λ (u : Sampled). u.detector) p
 step_is {d} (by_update_in_place κs x lent r s p was h) = h ∙ p.0 ∙ ap (λ (t : EwmaDetector). after t (takes x)) was
 step_is {d} (by_duration κs k s p) = ap (or_as_it_was d) p
-step_is {d} (by_refused_duration κs k s p h) = h ∙ ap (or_as_it_was d) p
+step_is {d} (by_refused_duration κs k r s p h) = h ∙ ap (or_as_it_was d) p
 step_is (by_recalibrate κs x s p) = p
 
 pub run_is : {d f : EwmaDetector} {cs : List Call} → Run d cs f → f ≡ ran d cs
@@ -82,8 +83,8 @@ steps d (recalibrates x) = by_recalibrate tt x (d, (x, tt)) refl
 steps d (resets k) = go (eqb k 0) refl
   where
     go : (b : Bool) → eqb k 0 ≡ b → Step d (or_as_it_was d (reset_of d k)) (resets k)
-    go true e = by_refused_duration tt k (d, (k, tt)) (sym (chosen _ _ e)) (ap (or_as_it_was d) (chosen _ _ e))
-    go false e = by_duration tt k (d, (k, tt)) (ap (λ (c : Configured). reset_means (reset.Detector (or_as_it_was d c))) (other _ _ e) ∙ sym (other _ _ e))
+    go true e = by_refused_duration tt k BadFreezeDuration (d, (k, tt)) (sym (cond-true _ _ _ e)) (ap (or_as_it_was d) (cond-true _ _ _ e))
+    go false e = by_duration tt k (d, (k, tt)) (ap (λ (c : Configured). reset_means (Ok (or_as_it_was d c))) (cond-false _ _ _ e) ∙ sym (cond-false _ _ _ e))
 
 pub runs : (cs : List Call) (d : EwmaDetector) → Run d cs (ran d cs)
 runs [] d = ended d
@@ -97,11 +98,8 @@ module _ (P : EwmaDetector → Type 0) where
       → (alpha threshold : Float) (freeze warmup : ℕ)
       → P (or_as_it_was ewma.idle (made_of alpha threshold freeze warmup))
   unfolding made_of
-  settings_have new alpha threshold freeze warmup = go (allowed alpha threshold)
-    where
-      go : (b : Bool) → P (or_as_it_was ewma.idle (cond b (configured (fresh alpha threshold freeze warmup)) (unconfigured 7)))
-      go true = new alpha threshold freeze warmup
-      go false = new zero32 zero32 0 0
+  settings_have new alpha threshold freeze warmup =
+      cond_both (allowed alpha threshold) _ _ (λ c. P (or_as_it_was ewma.idle c)) (λ _. new alpha threshold freeze warmup) (λ _. new zero32 zero32 0 0)
 
   pub step_keeps : ((d : EwmaDetector) (c : Call) → P d → P (after d c)) → {d e : EwmaDetector} {c : Call} → Step d e c → P d → P e
   step_keeps keeps {d} {e} {c} step has = subst P (sym (step_is step)) (keeps d c has)

@@ -14,7 +14,7 @@ use Rattle.detector.specs.declared.EwmaDetector.{EwmaDetector}
 use Rattle.detector.specs.Answers.{ignored, first_sample, warming, scored, scored_as, configured, unconfigured}
 use Rattle.detector.specs.Ewma.{Sampled, zero32, distance, new_mean, new_variance, kept_variance, one_more, rust_folded, folded, held, settled, score_of, updated, with_freeze, with_duration, with_stats, reset_of, recalibrated}
 use Rattle.detector.specs.Calls.{or_as_it_was}
-use Rattle.detector.proofs.Told.{chosen, other, or_yes, or_next, and_no, and_other}
+use Rattle.std.proofs.lemmas.Bool.{or_left, or_right, and_left, and_right, cond-true, cond-false, cond_both}
 use Rattle.detector.proofs.Floats.{below_zero}
 
 -- a detector with a sample and past its warm-up
@@ -40,13 +40,13 @@ anomalous d value = (score_of d (distance d value)).is_anomalous
 -- "A non-finite sample changes nothing and has no score."
 pub not_finite_ignored : (d : EwmaDetector) (value : Float) → finite value ≡ false → updated d value ≡ record { detector = d; said = ignored }
 unfolding updated
-not_finite_ignored d value f = chosen _ _ (ap not f)
+not_finite_ignored d value f = cond-true _ _ _ (ap not f)
 
 -- "The first sample sets the mean, variance 0, and has no score." The count is then 1.
 pub first_sample_lem : (d : EwmaDetector) (value : Float) → finite value ≡ true → d.count ≡ 0
     → updated d value ≡ record { detector = with_stats d value zero32 1; said = first_sample }
 unfolding updated
-first_sample_lem d value f none = other _ _ (ap not f) ∙ chosen _ _ (eq-eqb d.count 0 none)
+first_sample_lem d value f none = cond-false _ _ _ (ap not f) ∙ cond-true _ _ _ (eq-eqb d.count 0 none)
 
 -- "While the count is below the warm-up, samples are folded and score 0."
 pub warming_folded : (d : EwmaDetector) (value : Float) → finite value ≡ true → 0 < d.count → d.count < d.warmup_count
@@ -54,7 +54,7 @@ pub warming_folded : (d : EwmaDetector) (value : Float) → finite value ≡ tru
 unfolding updated
 warming_folded d value f some cold =
     let nonzero : d.count ≡ 0 → ⊥ = λ e. omega arith in
-    other _ _ (ap not f) ∙ other _ _ (ne_eqb d.count 0 nonzero) ∙ chosen _ _ (lt-ltb d.count d.warmup_count cold)
+    cond-false _ _ _ (ap not f) ∙ cond-false _ _ _ (ne_eqb d.count 0 nonzero) ∙ cond-true _ _ _ (lt-ltb d.count d.warmup_count cold)
 
 -- "Otherwise the score is taken against the old mean and floored variance."
 pub past_scored : (d : EwmaDetector) (value : Float) → Past d → finite value ≡ true
@@ -62,7 +62,7 @@ pub past_scored : (d : EwmaDetector) (value : Float) → Past d → finite value
 unfolding updated
 past_scored d value p f =
     let nonzero : d.count ≡ 0 → ⊥ = λ e. let h = p.some_sample in omega arith in
-    other _ _ (ap not f) ∙ other _ _ (ne_eqb d.count 0 nonzero) ∙ other _ _ (le-ltb d.count d.warmup_count p.warm)
+    cond-false _ _ _ (ap not f) ∙ cond-false _ _ _ (ne_eqb d.count 0 nonzero) ∙ cond-false _ _ _ (le-ltb d.count d.warmup_count p.warm)
 
 -- every sample is one of the four
 pub data Which (d : EwmaDetector) (value : Float) : Type 0 where
@@ -94,9 +94,9 @@ was_scored d value z flag e = go (which d value)
     said h = sym (ap (λ (u : Sampled). u.said) h) ∙ e
 
     go : Which d value → WasScored d value z flag
-    go (was_ignored f) = let h = said (not_finite_ignored d value f) in let no : ◌≡◌ {A = ℕ} 0 1 = cc in absurd (omega arith)
-    go (was_first f n) = let h = said (first_sample_lem d value f n) in let no : ◌≡◌ {A = ℕ} 0 1 = cc in absurd (omega arith)
-    go (was_warming f n w) = let h = said (warming_folded d value f n w) in let no : ◌≡◌ {A = ℕ} 0 1 = cc in absurd (omega arith)
+    go (was_ignored f) = let h = said (not_finite_ignored d value f) in absurd cc
+    go (was_first f n) = let h = said (first_sample_lem d value f n) in absurd cc
+    go (was_warming f n w) = let h = said (warming_folded d value f n w) in absurd cc
     go (was_past f p) = let h = said (past_scored d value p f) in record { sample = f; past = p; score = cc; flagged = cc }
 
 -- ---- anomalies and the freeze
@@ -107,15 +107,11 @@ held_same d = record { mean = refl; variance = refl; count = refl }
 
 anomalous-held : (d : EwmaDetector) (diff : Float) (a : Bool) → a ≡ true → settled d diff a ≡ held d
 unfolding settled
-anomalous-held d diff a e = go d.frozen refl
-  where
-    go : (b : Bool) → d.frozen ≡ b → cond (d.frozen || a) (held d) (folded d diff) ≡ held d
-    go true f = chosen _ _ (or_yes a f)
-    go false f = chosen _ _ (or_next f e)
+anomalous-held d diff a e = cond-true _ _ _ (or_right d.frozen a e)
 
 frozen_held : (d : EwmaDetector) (diff : Float) (a : Bool) → d.frozen ≡ true → settled d diff a ≡ held d
 unfolding settled
-frozen_held d diff a f = chosen _ _ (or_yes a f)
+frozen_held d diff a f = cond-true _ _ _ (or_left d.frozen a f)
 
 -- a sample that was scored anomalous uses a place of a freeze
 anomaly-held : (d : EwmaDetector) (value z : Float) → (updated d value).said ≡ scored z true → (updated d value).detector ≡ held d
@@ -197,23 +193,20 @@ zero_like_one d value =
 -- T-06: "A new mean that isn't finite is not to be stored; mean and variance then stay, and the count still rises."
 pub bad_mean_not_stored : (d : EwmaDetector) (diff : Float) → finite (new_mean d diff) ≡ false → folded d diff ≡ with_stats d d.mean d.variance (one_more d.count)
 unfolding folded
-bad_mean_not_stored d diff f = other _ _ f
+bad_mean_not_stored d diff f = cond-false _ _ _ f
 
 -- and any other is, as in the Rust
 pub good_mean_stored : (d : EwmaDetector) (diff : Float) → finite (new_mean d diff) ≡ true → folded d diff ≡ rust_folded d diff
 unfolding folded
-good_mean_stored d diff f = chosen _ _ f
+good_mean_stored d diff f = cond-true _ _ _ f
 
 -- so what holds of both holds of a fold
 pub either_fold : (P : EwmaDetector → Type 0) (d : EwmaDetector) (diff : Float)
     → P (rust_folded d diff)
     → P (with_stats d d.mean d.variance (one_more d.count))
     → P (folded d diff)
-either_fold P d diff stored left = go (finite (new_mean d diff)) refl
-  where
-    go : (b : Bool) → finite (new_mean d diff) ≡ b → P (folded d diff)
-    go true f = subst P (sym (good_mean_stored d diff f)) stored
-    go false f = subst P (sym (bad_mean_not_stored d diff f)) left
+unfolding folded
+either_fold P d diff stored left = cond_both (finite (new_mean d diff)) _ _ P (λ _. stored) (λ _. left)
 
 -- "A new variance that isn't finite or is below 0 isn't stored."
 pub bad_variance_not_stored : (d : EwmaDetector) (diff : Float) → (finite (new_variance d diff) ≡ false) ⊎ (lt (new_variance d diff) zero32 ≡ true)
@@ -221,8 +214,8 @@ pub bad_variance_not_stored : (d : EwmaDetector) (diff : Float) → (finite (new
 bad_variance_not_stored d diff bad = either_fold (λ e. e.variance ≡ d.variance) d diff (kept bad) refl
   where
     kept : (finite (new_variance d diff) ≡ false) ⊎ (lt (new_variance d diff) zero32 ≡ true) → kept_variance d (new_variance d diff) ≡ d.variance
-    kept (inl f) = other _ _ (and_no _ f)
-    kept (inr l) = other _ _ (and_other (finite (new_variance d diff)) (below_zero (new_variance d diff) l))
+    kept (inl f) = cond-false _ _ _ (and_left _ _ f)
+    kept (inr l) = cond-false _ _ _ (and_right _ _ (below_zero (new_variance d diff) l))
 
 -- ---- the other calls
 
@@ -230,31 +223,24 @@ bad_variance_not_stored d diff bad = either_fold (λ e. e.variance ≡ d.varianc
 pub recalibrated_finite : (d : EwmaDetector) (baseline : Float) → finite baseline ≡ true
     → recalibrated d baseline ≡ with_freeze (with_stats d baseline zero32 d.count) false 0
 unfolding recalibrated
-recalibrated_finite d baseline f = chosen _ _ f
+recalibrated_finite d baseline f = cond-true _ _ _ f
 
 -- "a non-finite number changes nothing"
 pub recalibrated_not_finite : (d : EwmaDetector) (baseline : Float) → finite baseline ≡ false → recalibrated d baseline ≡ d
 unfolding recalibrated
-recalibrated_not_finite d baseline f = other _ _ f
+recalibrated_not_finite d baseline f = cond-false _ _ _ f
 
 -- so what holds of both holds after `recalibrate`, and likewise after `set_freeze_duration`, a refusal included
 pub either_recalibrated : (P : EwmaDetector → Type 0) (d : EwmaDetector) (baseline : Float)
     → (finite baseline ≡ true → P (with_freeze (with_stats d baseline zero32 d.count) false 0))
     → P d
     → P (recalibrated d baseline)
-either_recalibrated P d baseline set left = go (finite baseline) refl
-  where
-    go : (b : Bool) → finite baseline ≡ b → P (recalibrated d baseline)
-    go true f = subst P (sym (recalibrated_finite d baseline f)) (set f)
-    go false f = subst P (sym (recalibrated_not_finite d baseline f)) left
+unfolding recalibrated
+either_recalibrated P d baseline set left = cond_both (finite baseline) _ _ P set (λ _. left)
 
 pub either_reset : (P : EwmaDetector → Type 0) (d : EwmaDetector) (duration : ℕ) → P (with_duration d duration) → P d → P (or_as_it_was d (reset_of d duration))
 unfolding reset_of
-either_reset P d duration set left = go (eqb duration 0)
-  where
-    go : (b : Bool) → P (or_as_it_was d (cond b (unconfigured 8) (configured (with_duration d duration))))
-    go true = left
-    go false = set
+either_reset P d duration set left = cond_both (eqb duration 0) _ _ (λ c. P (or_as_it_was d c)) (λ _. left) (λ _. set)
 
 -- "so on an empty detector the next sample overwrites it"
 pub recalibrated_empty_overwritten : (d : EwmaDetector) (baseline value : Float) → finite value ≡ true → d.count ≡ 0
@@ -270,7 +256,7 @@ unfolding reset_of
 duration_keeps_freeze d e duration h = go (eqb duration 0) h
   where
     go : (b : Bool) → cond b (unconfigured 8) (configured (with_duration d duration)) ≡ configured e → (e.frozen ≡ d.frozen) × (e.freeze_remaining ≡ d.freeze_remaining)
-    go true h = let z : ◌≡◌ {A = ℕ} 0 1 = cc in absurd (omega arith)
+    go true h = absurd cc
     go false h =
         let same : with_duration d duration ≡ e = cc in
         (ap (λ (t : EwmaDetector). t.frozen) (sym same), ap (λ (t : EwmaDetector). t.freeze_remaining) (sym same))

@@ -3,13 +3,13 @@
 use mathlib.Core.Path.{◌≡◌, refl, sym, subst}
 use mathlib.Core.Bool.{Bool, true, false, ◌||◌, cond}
 use Prim.Native.Nat.{ℕ}
-use native.Mathlib.Omega.{arith}
 use lib.Dec.{eqb}
+use Rattle.std.proofs.lemmas.Bool.{cond_both}
 use lib.Ieee.{Float}
 use contract.Lifetimes.{Lfts}
 use denote.MutBor.{MutBor}
+use Rattle.std.specs.Prelude.{Ok}
 use Rattle.detector.specs.declared.EwmaDetector.{EwmaDetector}
-use Rattle.detector.specs.declared.Reset.TheVariants as reset
 use Rattle.detector.specs.declared.Updated.{Updated}
 use Rattle.detector.specs.declared.Verdict.{Verdict}
 use Rattle.detector.specs.Answers.{configured, unconfigured}
@@ -35,11 +35,8 @@ folded_keeps d diff = either_fold (SameSettings d) d diff same same
 
 settled_keeps : (d : EwmaDetector) (diff : Float) (flag : Bool) → SameSettings d (settled d diff flag)
 unfolding settled held
-settled_keeps d diff flag = go (d.frozen || flag)
-  where
-    go : (b : Bool) → SameSettings d (cond b (held d) (folded d diff))
-    go true = record { alpha = refl; threshold = refl; freeze = refl; warmup = refl }
-    go false = folded_keeps d diff
+settled_keeps d diff flag =
+    cond_both (d.frozen || flag) _ _ (SameSettings d) (λ _. record { alpha = refl; threshold = refl; freeze = refl; warmup = refl }) (λ _. folded_keeps d diff)
 
 updated_keeps : (d : EwmaDetector) (x : Float) → SameSettings d (updated d x).detector
 updated_keeps d x = go (which d x)
@@ -70,11 +67,11 @@ recalibrate_keeps_settings κs d x e s p =
 
 -- the detector that `set_freeze_duration` answers is the one given, with the duration asked for and every other field as it was
 pub duration_alone_altered : (κs : Lfts 0) (d : EwmaDetector) (k : ℕ) (e : EwmaDetector) (s : _)
-    → set-freeze-duration.Learnt κs (d, (k, tt)) (reset.Detector e) s
+    → set-freeze-duration.Learnt κs (d, (k, tt)) (Ok e) s
     → e ≡ with_duration d k
 unfolding reset_of
 duration_alone_altered κs d k e s p = go (eqb k 0) p
   where
     go : (b : Bool) → configured e ≡ cond b (unconfigured 8) (configured (with_duration d k)) → e ≡ with_duration d k
-    go true h = let z : ◌≡◌ {A = ℕ} 0 1 = cc in absurd (omega arith)
+    go true h = absurd cc
     go false h = cc

@@ -1,14 +1,12 @@
 -- What the detector's calls answer, in document 01's numbers and words: "Refusal numbers", 7 and 8, and "The detector".
 -- Assumes nothing.
-use Rattle.std.specs.Prelude.{ℕ, Bool, false, Float}
+use Rattle.std.specs.Prelude.{ℕ, Bool, false, Float, Result, Ok, Err}
 use Rattle.std.specs.Float.{binary32}
 use Rattle.std.specs.Float.Ieee.{of_bits}
 use Rattle.detector.specs.declared.AnomalyScore.{AnomalyScore}
 use Rattle.detector.specs.declared.EwmaDetector.{EwmaDetector}
-use Rattle.detector.specs.declared.Made.{Made}
-use Rattle.detector.specs.declared.Made.TheVariants as made
-use Rattle.detector.specs.declared.Reset.{Reset}
-use Rattle.detector.specs.declared.Reset.TheVariants as reset
+use Rattle.detector.specs.declared.DetectorError.{DetectorError}
+use Rattle.detector.specs.declared.DetectorError.TheVariants.{BadSettings, BadFreezeDuration}
 use Rattle.detector.specs.declared.Verdict.{Verdict}
 use Rattle.detector.specs.declared.Verdict.TheVariants as verdict
 
@@ -17,13 +15,18 @@ pub data Configured : Type 0 where
   configured : EwmaDetector → Configured
   unconfigured : ℕ → Configured
 
-abbrev pub made_means : Made → Configured
-made_means (made.Detector d) = configured d
-made_means made.Refused = unconfigured 7
+abbrev pub refusal_number : DetectorError → ℕ
+refusal_number BadSettings = 7
+refusal_number BadFreezeDuration = 8
 
-abbrev pub reset_means : Reset → Configured
-reset_means (reset.Detector d) = configured d
-reset_means reset.Refused = unconfigured 8
+-- What `new` and `with_options` answer.
+abbrev pub made_means : Result EwmaDetector DetectorError → Configured
+made_means (Ok d) = configured d
+made_means (Err e) = unconfigured (refusal_number e)
+
+-- What `set_freeze_duration` answers.
+abbrev pub reset_means : Result EwmaDetector DetectorError → Configured
+reset_means = made_means
 
 -- What a sample was to the detector, with the score and the flag that the Rust answers for it; for the first two it answers none.
 pub data Heard : Type 0 where

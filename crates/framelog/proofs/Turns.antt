@@ -108,20 +108,20 @@ made_more : {st s : State} {input out i o : List ℕ} {r : State} {input' out' :
 made_more none g w = refl
 made_more (then k v ws) g w = ap suc (made_more ws g w)
 
--- what holds at the loop's head: the state was reached by turns, and with those that may still be made they are 2 ^ 64 - 1
+-- what holds at the loop's head: the state was reached by so many turns
 pub record Reached (input₀ out₀ input out : List ℕ) (st : State) (turns : ℕ) : Type 0 where
   pub by : Turns begun input₀ out₀ st input out
-  pub counted : turns + made by ≡ 18446744073709551615
+  pub counted : made by ≡ turns
   pub kept : Kept input₀ out₀ st input out
 
-pub at_first : {input out : List ℕ} {st : State} → st ≡ begun → Reached input out input out st 18446744073709551615
+pub at_first : {input out : List ℕ} {st : State} → st ≡ begun → Reached input out input out st 0
 at_first {input} {out} {st} e =
-    subst (λ (s : State). Reached input out input out s 18446744073709551615) (sym e)
-    (record { by = none; counted = omega arith; kept = record { long_in = refl; long_off = refl; within = omega arith } })
+    subst (λ (s : State). Reached input out input out s 0) (sym e)
+    (record { by = none; counted = refl; kept = record { long_in = refl; long_off = refl; within = omega arith } })
 
-pub next_turn : {input₀ out₀ input out : List ℕ} {st : State} {turns : ℕ} → Reached input₀ out₀ input out st turns → st.going ≡ true → 1 ≤ turns
-    → {r : State} {input' out' : List ℕ} → Turn st input out r input' out' → Reached input₀ out₀ input' out' r (turns - 1)
-next_turn a g l w =
+pub next_turn : {input₀ out₀ input out : List ℕ} {st : State} {turns : ℕ} → Reached input₀ out₀ input out st turns → st.going ≡ true
+    → {r : State} {input' out' : List ℕ} → Turn st input out r input' out' → Reached input₀ out₀ input' out' r (turns + 1)
+next_turn a g w =
     let k = turn_keeps w a.kept.within in
     record {
       by = one_more a.by g w;
@@ -132,5 +132,5 @@ next_turn a g l w =
 pub no_turn : {input₀ out₀ input out : List ℕ} {st : State} {turns : ℕ} → Reached input₀ out₀ input out st turns → st.going ≡ false → Ran input₀ out₀ input out
 no_turn {st = st} a d = record { state = st; turns = a.by; over = inl d }
 
-pub no_turn_left : {input₀ out₀ input out : List ℕ} {st : State} {turns : ℕ} → Reached input₀ out₀ input out st turns → turns ≡ 0 → Ran input₀ out₀ input out
+pub no_turn_left : {input₀ out₀ input out : List ℕ} {st : State} {turns : ℕ} → Reached input₀ out₀ input out st turns → turns ≡ 18446744073709551615 → Ran input₀ out₀ input out
 no_turn_left {st = st} a z = record { state = st; turns = a.by; over = inr (omega (arith, a.counted)) }

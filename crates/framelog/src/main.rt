@@ -4,9 +4,9 @@
 ghost use Rattle.std.specs.Prelude.{◌≡◌, ◌-◌, ◌≤◌, length, take, drop};
 ghost use Rattle.std.specs.Result.{result_ok};
 ghost use Rattle.std.proofs.lemmas.List.Edits.{sets};
-ghost use Rattle.can_log.specs.Pieces.{Does, advance_of, is_ended};
+ghost use Rattle.can_log.specs.Pieces.{Does, advance_of};
 ghost use Rattle.can_log.specs.Output.{status_means};
-ghost use Rattle.framelog.specs.Program.{got_of, Read, is_waiting, remaining, failed_of, after_write, Prints, Turn, Ran};
+ghost use Rattle.framelog.specs.Program.{got_of, Read, remaining, failed_of, after_write, Prints, Turn, Ran};
 
 use can_log::{Log, Status, Step};
 use std::io;
@@ -38,19 +38,6 @@ struct State {
     going: bool,
 }
 
-// Moves the bytes from index `from` up to `to` to the front.
-fn move_down(buf: &mut [u8], from: usize, to: usize)
-    requires { (from ≤ to) × (to ≤ length buf.old) }
-    ensures { buf.new ≡ sets buf.old 0 (take (to - from) (drop from buf.old)) }
-{
-    let n = to - from;
-    let mut i = 0;
-    while i < n {
-        buf[i] = buf[from + i];
-        i += 1;
-    }
-}
-
 // The records in the first `have` bytes: their lines go into `out`, and the bytes that are left move to the front.
 fn work(log: Log, have: usize, ended: bool, input: &mut [u8], out: &mut [u8]) -> Step
     requires { have ≤ length input.old }
@@ -58,8 +45,7 @@ fn work(log: Log, have: usize, ended: bool, input: &mut [u8], out: &mut [u8]) ->
     ensures input_after { input.new ≡ remaining input.old have result.used }
 {
     let r = can_log::advance(log, &input[..have], ended, out);
-    let used = r.used;
-    move_down(input, used, have);
+    input.copy_within(r.used..have, 0);
     r
 }
 
@@ -118,28 +104,6 @@ fn stopped(log: Log) -> State
     }
 }
 
-fn is_waiting(status: Status) -> bool
-    ensures { result ≡ is_waiting (status_means status) }
-{
-    match status {
-        Status::Waiting => true,
-        Status::Going => false,
-        Status::Full => false,
-        Status::Ended => false,
-    }
-}
-
-fn is_ended(status: Status) -> bool
-    ensures { result ≡ is_ended (status_means status) }
-{
-    match status {
-        Status::Ended => true,
-        Status::Going => false,
-        Status::Full => false,
-        Status::Waiting => false,
-    }
-}
-
 // What a step left, with `have` bytes at hand, once its lines were handed to a write, which took them or failed.
 fn after_write(took: bool, log: Log, have: usize, ended: bool, status: Status) -> State
     ensures { result ≡ after_write took log have ended (status_means status) }
@@ -151,8 +115,8 @@ fn after_write(took: bool, log: Log, have: usize, ended: bool, status: Status) -
         log,
         have,
         ended,
-        waiting: is_waiting(status),
-        going: !is_ended(status),
+        waiting: matches!(status, Status::Waiting),
+        going: !matches!(status, Status::Ended),
     }
 }
 
@@ -211,13 +175,11 @@ fn run(streams: Streams, input: &mut [u8], out: &mut [u8])
         waiting: true,
         going: true,
     };
-    let mut turns = u64::MAX;
-    while turns > 0 {
+    for _ in 0..u64::MAX {
         if !st.going {
             return;
         }
         st = turn(streams, st, input, out);
-        turns -= 1;
     }
 }
 

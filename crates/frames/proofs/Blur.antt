@@ -5,16 +5,17 @@ use mathlib.Core.Path.{◌≡◌, refl, sym, ap, ◌∙◌}
 use mathlib.Core.Bool.{Bool, true, false, cond}
 use mathlib.Core.List.{List, [], ◌∷◌, map}
 use Prim.Native.Nat.{ℕ, ◌+◌}
+use Rattle.std.proofs.Common.{Option, Result, Ok, Err}
 use lib.Dec.{eqb, ltb, leb}
 use lib.ListN.{length, length-map, take}
 use Rattle.conversion.specs.declared.SignalDefinition.{SignalDefinition}
 use Rattle.detector.specs.declared.EwmaDetector.{EwmaDetector}
-use Rattle.table.specs.declared.Answer.TheVariants.{Slot, Done}
+use Rattle.table.specs.declared.TableError.{TableError}
+use Rattle.table.specs.declared.TableError.TheVariants.{InvalidInput, ResourceExhausted}
 use Rattle.table.specs.declared.Entry.{Entry}
 use Rattle.table.specs.Rows.{keep, some, drop_first, insert_behind}
-use Rattle.table.specs.Table.{Table, Told, accepted, refused, with_rows, fault, faults, slots_ok, entry_of, below, has, without, added, appended, appended_all, define', remove', batch'}
+use Rattle.table.specs.Table.{Table, Told, accepted, refused, unless, with_rows, fault, faults, slots_ok, entry_of, below, has, without, added, appended, appended_all, define', remove', batch'}
 use Rattle.table.specs.Calls.{TableCall, defines, batches, removes, told}
-use Rattle.frames.specs.declared.Multiplexor.{Multiplexor}
 use Rattle.frames.specs.Frames.{same_key, applies, selects, number_of, multiplexor_of, next_of, advanced, report_of, reports}
 use Rattle.frames.proofs.Rows.{key_is, next_stays}
 
@@ -80,14 +81,14 @@ module _ (id : ℕ) (x : Bool) where
         at false = refl
 
     -- ---- a frame, row by row
-    next_other : (i : ℕ) (f : Bool) → same_key i f id x ≡ false → (s : List ℕ) (n : ℕ) (m : Multiplexor) (row : Entry) → blur (next_of i f s n m row) ≡ blur row
+    next_other : (i : ℕ) (f : Bool) → same_key i f id x ≡ false → (s : List ℕ) (n : ℕ) (m : Option ℕ) (row : Entry) → blur (next_of i f s n m row) ≡ blur row
     next_other i f k s n m row = go (applies i f row) refl
       where
         go : (b : Bool) → applies i f row ≡ b → blur (next_of i f s n m row) ≡ blur row
         go true h = blur_other row (next_of i f s n m row).detector row.detector (apart id x i f row k h)
         go false h = ap blur (next_stays i f s n m row h)
 
-    next_own : (s : List ℕ) (n : ℕ) (m : Multiplexor) (row : Entry) → blur (next_of id x s n m row) ≡ blur (next_of id x s n m (blur row))
+    next_own : (s : List ℕ) (n : ℕ) (m : Option ℕ) (row : Entry) → blur (next_of id x s n m row) ≡ blur (next_of id x s n m (blur row))
     next_own s n m row = go (applies id x row) refl
       where
         go : (b : Bool) → applies id x row ≡ b → blur (next_of id x s n m row) ≡ blur (next_of id x s n m (blur row))
@@ -99,12 +100,12 @@ module _ (id : ℕ) (x : Bool) where
     rows_twice [] = refl
     rows_twice (row ∷ l) = ap (λ (r : Entry). r ∷ map blur (map blur l)) (blur_twice row) ∙ ap (λ (r : List Entry). blur row ∷ r) (rows_twice l)
 
-    pub rows_other : (i : ℕ) (f : Bool) → same_key i f id x ≡ false → (s : List ℕ) (n : ℕ) (m : Multiplexor) (l : List Entry) → map blur (map (next_of i f s n m) l) ≡ map blur l
+    pub rows_other : (i : ℕ) (f : Bool) → same_key i f id x ≡ false → (s : List ℕ) (n : ℕ) (m : Option ℕ) (l : List Entry) → map blur (map (next_of i f s n m) l) ≡ map blur l
     rows_other i f k s n m [] = refl
     rows_other i f k s n m (row ∷ l) =
         ap (λ (r : Entry). r ∷ map blur (map (next_of i f s n m) l)) (next_other i f k s n m row) ∙ ap (λ (r : List Entry). blur row ∷ r) (rows_other i f k s n m l)
 
-    rows_own : (s : List ℕ) (n : ℕ) (m : Multiplexor) (l : List Entry) → map blur (map (next_of id x s n m) l) ≡ map blur (map (next_of id x s n m) (map blur l))
+    rows_own : (s : List ℕ) (n : ℕ) (m : Option ℕ) (l : List Entry) → map blur (map (next_of id x s n m) l) ≡ map blur (map (next_of id x s n m) (map blur l))
     rows_own s n m [] = refl
     rows_own s n m (row ∷ l) =
         ap (λ (r : Entry). r ∷ map blur (map (next_of id x s n m) l)) (next_own s n m row)
@@ -136,18 +137,18 @@ module _ (id : ℕ) (x : Bool) where
     pub reports_blur : (s : List ℕ) (n : ℕ) (l : List Entry) → reports id x s n l ≡ reports id x s n (map blur l)
     reports_blur s n l =
         ap (map (report_of s n (multiplexor_of id x s n l))) (keep_blur l)
-        ∙ ap (λ (m : Multiplexor). map (report_of s n m) (keep (applies id x) (map blur l))) (sym (multiplexor_blur s n l))
+        ∙ ap (λ (m : Option ℕ). map (report_of s n m) (keep (applies id x) (map blur l))) (sym (multiplexor_blur s n l))
 
     pub advanced_blur : (s : List ℕ) (n : ℕ) (l : List Entry) → map blur (advanced id x s n l) ≡ map blur (advanced id x s n (map blur l))
     advanced_blur s n l =
         rows_own s n (multiplexor_of id x s n l) l
-        ∙ ap (λ (m : Multiplexor). map blur (map (next_of id x s n m) (map blur l))) (sym (multiplexor_blur s n l))
+        ∙ ap (λ (m : Option ℕ). map blur (map (next_of id x s n m) (map blur l))) (sym (multiplexor_blur s n l))
 
   -- ---- the blur of a table, by its own fresh detector
   abbrev pub blurred : Table → Table
   blurred t = with_rows t (map (blur t.fresh) t.rows)
 
-  abbrev pub blur_told : Told → Told
+  abbrev pub blur_told : {A : Type 0} → Told A → Told A
   blur_told (accepted a t) = accepted a (blurred t)
   blur_told (refused k) = refused k
 
@@ -166,27 +167,30 @@ module _ (id : ℕ) (x : Bool) where
   define_blur t d =
       ap (λ (n : ℕ). told_by (ltb n 64) (added (blurred t) d)) (length-map t.rows (blur t.fresh))
       ∙ ap (λ (l : List Entry). told_by (ltb (length t.rows) 64) (with_rows (added t d) l)) (placed_blur d.can_id t d)
-      ∙ at (eqb (fault d) 0) (ltb (length t.rows) 64) (eqb t.next 65535)
+      ∙ at (fault d) (ltb (length t.rows) 64) (eqb t.next 65535)
     where
-      tests : Bool → Bool → Bool → Table → Told
-      tests a b c u = cond a (cond b (cond c (refused 4) (accepted (Slot t.next) u)) (refused 4)) (refused (fault d))
+      tests : Result Unit TableError → Bool → Bool → Table → Told ℕ
+      tests a b c u = unless a (cond b (cond c (refused ResourceExhausted) (accepted t.next u)) (refused ResourceExhausted))
 
-      told_by : Bool → Table → Told
-      told_by b u = tests (eqb (fault d) 0) b (eqb t.next 65535) u
+      told_by : Bool → Table → Told ℕ
+      told_by b u = tests (fault d) b (eqb t.next 65535) u
 
-      at : (a b c : Bool) → tests a b c (blurred (added t d)) ≡ blur_told (tests a b c (added t d))
-      at false b c = refl
-      at true false c = refl
-      at true true true = refl
-      at true true false = refl
+      at : (a : Result Unit TableError) (b c : Bool) → tests a b c (blurred (added t d)) ≡ blur_told (tests a b c (added t d))
+      at (Err k) b c = refl
+      at (Ok done) false c = refl
+      at (Ok done) true true = refl
+      at (Ok done) true false = refl
 
   remove_blur : (t : Table) (s : ℕ) → remove' (blurred t) s ≡ blur_told (remove' t s)
   remove_blur t s =
-      ap (λ (b : Bool). cond b (accepted Done (without (blurred t) s)) (refused 3)) (map_some (blur t.fresh) (has s) (λ a. refl) t.rows)
-      ∙ ap (λ (l : List Entry). cond (some (has s) t.rows) (accepted Done (with_rows t l)) (refused 3)) (sym (map-drop-first (blur t.fresh) (has s) (λ a. refl) t.rows))
+      ap (λ (b : Bool). cond b (accepted tt (without (blurred t) s)) (refused InvalidInput)) (map_some (blur t.fresh) (has s) (λ a. refl) t.rows)
+      ∙ ap (λ (l : List Entry). cond (some (has s) t.rows) (accepted tt (with_rows t l)) (refused InvalidInput)) (sym (map-drop-first (blur t.fresh) (has s) (λ a. refl) t.rows))
       ∙ at (some (has s) t.rows)
     where
-      at : (b : Bool) → cond b (accepted Done (blurred (without t s))) (refused 3) ≡ blur_told (cond b (accepted Done (without t s)) (refused 3))
+      tests : Bool → Table → Told Unit
+      tests b u = cond b (accepted tt u) (refused InvalidInput)
+
+      at : (b : Bool) → tests b (blurred (without t s)) ≡ blur_told (tests b (without t s))
       at true = refl
       at false = refl
 
@@ -198,19 +202,19 @@ module _ (id : ℕ) (x : Bool) where
   batch_blur t ds n =
       ap (λ (k : ℕ). told_by (leb (k + n) 64) (appended_all (blurred t) (take n ds))) (length-map t.rows (blur t.fresh))
       ∙ ap (told_by (leb (length t.rows + n) 64)) (append_blur (take n ds) t)
-      ∙ at (leb (length t.rows + n) 64) (eqb (faults (take n ds)) 0) (slots_ok n t.next)
+      ∙ at (leb (length t.rows + n) 64) (faults (take n ds)) (slots_ok n t.next)
     where
-      tests : Bool → Bool → Bool → Table → Told
-      tests a b c u = cond a (cond b (cond c (accepted Done u) (refused 4)) (refused (faults (take n ds)))) (refused 4)
+      tests : Bool → Result Unit TableError → Bool → Table → Told Unit
+      tests a b c u = cond a (unless b (cond c (accepted tt u) (refused ResourceExhausted))) (refused ResourceExhausted)
 
-      told_by : Bool → Table → Told
-      told_by a u = tests a (eqb (faults (take n ds)) 0) (slots_ok n t.next) u
+      told_by : Bool → Table → Told Unit
+      told_by a u = tests a (faults (take n ds)) (slots_ok n t.next) u
 
-      at : (a b c : Bool) → tests a b c (blurred (appended_all t (take n ds))) ≡ blur_told (tests a b c (appended_all t (take n ds)))
+      at : (a : Bool) (b : Result Unit TableError) (c : Bool) → tests a b c (blurred (appended_all t (take n ds))) ≡ blur_told (tests a b c (appended_all t (take n ds)))
       at false b c = refl
-      at true false c = refl
-      at true true true = refl
-      at true true false = refl
+      at true (Err k) c = refl
+      at true (Ok done) true = refl
+      at true (Ok done) false = refl
 
   pub told_blur : (t : Table) (c : TableCall) → told (blurred t) c ≡ blur_told (told t c)
   told_blur t (defines d) = define_blur t d

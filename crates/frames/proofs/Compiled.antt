@@ -20,7 +20,7 @@ use Rattle.frames.specs.declared.FrameHeader.{FrameHeader}
 use Rattle.frames.specs.declared.CanFrame.{CanFrame}
 use Rattle.frames.specs.declared.Processed.{Processed}
 use Rattle.frames.specs.Frames.{frame_with, Answered, result_means, Framed, processed, processed_frame}
-use Rattle.frames.specs.Isolation.{Call, tabled, count_asked, next_asked, framed, raw_framed, Said, gave, number, saw, said, after, answers, ran}
+use Rattle.frames.specs.Isolation.{Call, tabled, count_asked, next_asked, framed, raw_framed, Said, gave_slot, gave_nothing, number, saw, said, after, answers, ran}
 use Rattle.frames.proofs.Determined.{processed_for, result_has, framed_has}
 use Rattle.frames.proofs.process_frame.Reads as process-frame
 use Rattle.frames.proofs.process_lent_frame.Reads as process-lent-frame
@@ -28,12 +28,12 @@ use Rattle.frames.proofs.process_raw_frame.Reads as process-raw-frame
 
 -- ---- one call: the compiled call may answer so and leave this engine
 pub data Compiled : SignalIdsEngine → Call → Said → SignalIdsEngine → Type 0 where
-  defining : (κs : Lfts 0) (e : SignalIdsEngine) (d : SignalDefinition) (r : Defined) (x : _) → define-signal.Learnt κs (e, (d, tt)) r x
-      → Compiled e (tabled (defines d)) (gave r.answer) r.engine
-  batching : (κs : Lfts 0) (e : SignalIdsEngine) (ds : List SignalDefinition) (n : ℕ) (r : Defined) (x : _) → define-signals-batch.Learnt κs (e, (ds, (n, tt))) r x
-      → Compiled e (tabled (batches ds n)) (gave r.answer) r.engine
-  removing : (κs : Lfts 0) (e : SignalIdsEngine) (s : ℕ) (r : Defined) (x : _) → remove-signal.Learnt κs (e, (s, tt)) r x
-      → Compiled e (tabled (removes s)) (gave r.answer) r.engine
+  defining : (κs : Lfts 0) (e : SignalIdsEngine) (d : SignalDefinition) (r : Defined ℕ) (x : _) → define-signal.Learnt κs (e, (d, tt)) r x
+      → Compiled e (tabled (defines d)) (gave_slot r.answer) r.engine
+  batching : (κs : Lfts 0) (e : SignalIdsEngine) (ds : List SignalDefinition) (n : ℕ) (r : Defined Unit) (x : _) → define-signals-batch.Learnt κs (e, (ds, (n, tt))) r x
+      → Compiled e (tabled (batches ds n)) (gave_nothing r.answer) r.engine
+  removing : (κs : Lfts 0) (e : SignalIdsEngine) (s : ℕ) (r : Defined Unit) (x : _) → remove-signal.Learnt κs (e, (s, tt)) r x
+      → Compiled e (tabled (removes s)) (gave_nothing r.answer) r.engine
   counting : (κs : Lfts 0) (e : SignalIdsEngine) (n : ℕ) (x : _) → signal-count.Learnt κs (e, tt) n x → Compiled e count_asked (number n) e
   asking : (κs : Lfts 0) (e : SignalIdsEngine) (n : ℕ) (x : _) → next-slot.Learnt κs (e, tt) n x → Compiled e next_asked (number n) e
   framing : (κs : Lfts 0) (e : SignalIdsEngine) (f : CanFrame) (r : Processed) (x : _) → process-frame.Learnt κs (e, (f, tt)) r x
@@ -48,9 +48,9 @@ pub data Compiled : SignalIdsEngine → Call → Said → SignalIdsEngine → Ty
 
 -- it is what the definitions say
 pub compiled_says : {e u : SignalIdsEngine} {c : Call} {a : Said} → Compiled e c a u → (a ≡ said e c) × (u ≡ after e c)
-compiled_says (defining κs e d r x h) = (ap (λ (q : Defined). gave q.answer) h, ap (λ (q : Defined). q.engine) h)
-compiled_says (batching κs e ds n r x h) = (ap (λ (q : Defined). gave q.answer) h, ap (λ (q : Defined). q.engine) h)
-compiled_says (removing κs e s r x h) = (ap (λ (q : Defined). gave q.answer) h, ap (λ (q : Defined). q.engine) h)
+compiled_says (defining κs e d r x h) = (ap (λ (q : Defined ℕ). gave_slot q.answer) h, ap (λ (q : Defined ℕ). q.engine) h)
+compiled_says (batching κs e ds n r x h) = (ap (λ (q : Defined Unit). gave_nothing q.answer) h, ap (λ (q : Defined Unit). q.engine) h)
+compiled_says (removing κs e s r x h) = (ap (λ (q : Defined Unit). gave_nothing q.answer) h, ap (λ (q : Defined Unit). q.engine) h)
 compiled_says (counting κs e n x h) = (ap number h, refl)
 compiled_says (asking κs e n x h) = (ap number h, refl)
 compiled_says (framing κs e f r x h) = (ap (λ (q : Framed). saw q.result) h, ap (λ (q : Framed). q.engine) h)

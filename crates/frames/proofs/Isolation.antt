@@ -5,15 +5,14 @@ use mathlib.Core.Bool.{Bool, true, false, cond}
 use mathlib.Core.List.{List, [], ◌∷◌}
 use Prim.Native.Nat.{ℕ}
 use native.Mathlib.Omega.{arith}
+use Rattle.std.proofs.Common.{Ok}
 use lib.Ieee.{Float}
 use lib.ListN.{length, length-map}
 use contract.Lifetimes.{Lfts}
-use Rattle.table.specs.declared.Answer.{Answer}
-use Rattle.table.specs.declared.Answer.TheVariants.{Done, Refused}
 use Rattle.table.specs.declared.Defined.{Defined}
 use Rattle.table.specs.declared.SignalIdsEngine.{SignalIdsEngine}
 use Rattle.table.specs.Rows.{keep}
-use Rattle.table.specs.Table.{Table, Told, accepted, refused, table_of, live, with_rows, defined}
+use Rattle.table.specs.Table.{Table, Told, accepted, refused, table_of, live, with_rows, answer_of, defined}
 use Rattle.table.specs.Calls.{told, left}
 use Rattle.table.proofs.Regular.{follows}
 use Rattle.frames.specs.Frames.{same_key, effective_of, payload_of, applies, multiplexor_of, advanced, Reported, reports, answered}
@@ -29,12 +28,8 @@ module _ (id : ℕ) (x : Bool) where
   blur_t = blurred id x
 
   -- ---- what a call says and leaves, over the table that the engine holds
-  answer_of : Told → Answer
-  answer_of (accepted a t) = a
-  answer_of (refused k) = Refused k
-
   said_t : Table → Call → Said
-  said_t t (tabled c) = gave (answer_of (told t c))
+  said_t t (tabled c) = gave c (answer_of (told t c))
   said_t t count_asked = number (length t.rows)
   said_t t next_asked = number t.next
   said_t t (framed f) = saw (answered (reports (effective_of f) f.is_extended f.«data» (payload_of f) t.rows))
@@ -48,10 +43,10 @@ module _ (id : ℕ) (x : Bool) where
   after_t t (raw_framed i s n) = with_rows t (advanced i false s n t.rows)
 
   said_table : (e : SignalIdsEngine) (c : Call) → said e c ≡ said_t (table_of e) c
-  unfolding said_t answer_of
-  said_table e (tabled c) = ap gave (at (told (table_of e) c))
+  unfolding said_t
+  said_table e (tabled c) = ap (gave c) (at (told (table_of e) c))
     where
-      at : (r : Told) → (defined e r).answer ≡ answer_of r
+      at : {A : Type 0} (r : Told A) → (defined e r).answer ≡ answer_of r
       at (accepted a t) = refl
       at (refused k) = refl
   said_table e count_asked = refl
@@ -68,12 +63,11 @@ module _ (id : ℕ) (x : Bool) where
   after_table e (raw_framed i s n) = frame_table e i false s n
 
   -- ---- a table call
-  answer_blur : (r : Told) → answer_of r ≡ answer_of (blur_told id x r)
-  unfolding answer_of
+  answer_blur : {A : Type 0} (r : Told A) → answer_of r ≡ answer_of (blur_told id x r)
   answer_blur (accepted a t) = refl
   answer_blur (refused k) = refl
 
-  left_blur : (t : Table) (r : Told) → blur_t (left t r) ≡ left (blur_t t) (blur_told id x r)
+  left_blur : {A : Type 0} (t : Table) (r : Told A) → blur_t (left t r) ≡ left (blur_t t) (blur_told id x r)
   left_blur t (accepted a u) = refl
   left_blur t (refused k) = refl
 
@@ -103,7 +97,7 @@ module _ (id : ℕ) (x : Bool) where
   -- ---- a call that concerns the key, and one that doesn't
   said_blur : (t : Table) (c : Call) → concerns id x c ≡ true → said_t t c ≡ said_t (blur_t t) c
   unfolding said_t
-  said_blur t (tabled c) h = ap gave (answer_blur (told t c) ∙ ap answer_of (sym (told_blur id x t c)))
+  said_blur t (tabled c) h = ap (gave c) (answer_blur (told t c) ∙ ap answer_of (sym (told_blur id x t c)))
   said_blur t count_asked h = ap number (sym (length-map t.rows _))
   said_blur t next_asked h = refl
   said_blur t (framed f) h = ap (λ (l : List Reported). saw (answered l)) (own_reports t (effective_of f) f.is_extended f.«data» (payload_of f) h)
@@ -210,9 +204,9 @@ isolation id x {e} {z} {z'} {cs} {heard} {heard'} run run' =
     )
 
 -- so from every engine that the compiled `new` gives
-pub isolation_from_new : (κs : Lfts 0) (alpha threshold : Float) (made : Defined) (out : _)
+pub isolation_from_new : (κs : Lfts 0) (alpha threshold : Float) (made : Defined Unit) (out : _)
     → new.Learnt κs (alpha, (threshold, tt)) made out
-    → made.answer ≡ Done
+    → made.answer ≡ Ok tt
     → (id : ℕ) (x : Bool) {z z' : SignalIdsEngine} {cs : List Call} {heard heard' : List Said}
     → Run made.engine cs heard z
     → Run made.engine (keep (concerns id x) cs) heard' z'

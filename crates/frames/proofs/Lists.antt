@@ -2,14 +2,14 @@
 -- Assumes nothing.
 use mathlib.Core.Path.{◌≡◌, refl, sym, ap, ◌∙◌}
 use mathlib.Core.Bool.{Bool, true, false, cond}
-use mathlib.Core.List.{List, [], ◌∷◌, ◌++◌, map, map-append, append-nil, append_assoc}
+use mathlib.Core.List.{List, [], ◌∷◌, ◌++◌, map, map-append, append-nil}
 use Prim.Native.Nat.{ℕ, zero, suc, ◌+◌, ◌≤◌, ◌<◌}
 use native.Mathlib.Numerals.{add-one}
 use native.Mathlib.Omega.{arith}
-use lib.ListN.{length, get_or, take, drop, set, replicate, length-append, length-map, take-append-drop, drop_of_length-le}
-use lib.Seq.{length-take-le, drop-cons, set_at, get_or-append_seam, append_snoc, take-add, drop-drop, take_all}
-use Rattle.table.specs.Rows.{keep, first, front}
-use Rattle.table.proofs.Laws.{take_more, keep_append}
+use lib.ListN.{length, get_or, take, drop, set, length-append, length-map, take-append-drop, drop_of_length-le}
+use lib.Seq.{length-take-le, drop-cons, set_at, get_or-append_seam, append_snoc, take_all}
+use Rattle.table.specs.Rows.{keep}
+use Rattle.table.proofs.Laws.{take_more}
 
 module _ {ℓ} {A : Type ℓ} (p : A → Bool) where
   -- ---- how many pass a test
@@ -22,61 +22,6 @@ module _ {ℓ} {A : Type ℓ} (p : A → Bool) where
       at : (b : Bool) → length (cond b (a ∷ keep p l) (keep p l)) ≡ cond b (suc (tally l)) (tally l)
       at true = refl
       at false = refl
-
-  -- ---- those at the front that pass it, up to the first that fails
-  pub front_fails : (l : List A) (d : A) → front p l < length l → p (get_or l (front p l) d) ≡ false
-  front_fails [] d h = absurd (omega arith)
-  front_fails (a ∷ l) d h = at (front_fails l d) (p a) refl h
-    where
-      at : (front p l < length l → p (get_or l (front p l) d) ≡ false)
-          → (b : Bool)
-          → p a ≡ b
-          → cond b (suc (front p l)) 0 < suc (length l)
-          → p (get_or (a ∷ l) (cond b (suc (front p l)) 0) d) ≡ false
-      at rest true e k = rest (omega arith)
-      at rest false e k = e
-
-  pub front_stays : (f : A → A) → ((a : A) → p a ≡ true → f a ≡ a) → (l : List A) → map f (take (front p l) l) ≡ take (front p l) l
-  front_stays f stay [] = refl
-  front_stays f stay (a ∷ l) = at (front_stays f stay l) (p a) refl
-    where
-      at : map f (take (front p l) l) ≡ take (front p l) l
-          → (b : Bool)
-          → p a ≡ b
-          → map f (take (cond b (suc (front p l)) 0) (a ∷ l)) ≡ take (cond b (suc (front p l)) 0) (a ∷ l)
-      at rest true e = ap (λ (r : List A). f a ∷ r) rest ∙ ap (λ (b : A). b ∷ take (front p l) l) (stay a e)
-      at rest false e = refl
-
-  module _ (q : A → Bool) (out : (a : A) → p a ≡ true → q a ≡ false) where
-    pub front_none : (l : List A) → keep q (take (front p l) l) ≡ []
-    front_none [] = refl
-    front_none (a ∷ l) = at (front_none l) (p a) refl
-      where
-        at : keep q (take (front p l) l) ≡ [] → (b : Bool) → p a ≡ b → keep q (take (cond b (suc (front p l)) 0) (a ∷ l)) ≡ []
-        at rest true e = ap (λ (b : Bool). cond b (a ∷ keep q (take (front p l) l)) (keep q (take (front p l) l))) (out a e) ∙ rest
-        at rest false e = refl
-
-    pub front_first {κ} : {B : Type κ} (f : A → B) (z : B) (l : List A) → first q f z l ≡ first q f z (drop (front p l) l)
-    front_first f z [] = refl
-    front_first {B = B} f z (a ∷ l) = at (front_first f z l) (p a) refl
-      where
-        at : first q f z l ≡ first q f z (drop (front p l) l)
-            → (b : Bool)
-            → p a ≡ b
-            → first q f z (a ∷ l) ≡ first q f z (drop (cond b (suc (front p l)) 0) (a ∷ l))
-        at rest true e = ap (λ (b : Bool). cond b (f a) (first q f z l)) (out a e) ∙ rest
-        at rest false e = refl
-
-    -- so from place i on
-    pub keep_gap : (l : List A) (i : ℕ) → keep q (take (i + front p (drop i l)) l) ≡ keep q (take i l)
-    keep_gap l i =
-        ap (keep q) (take-add i (front p (drop i l)) l)
-        ∙ keep_append q (take i l) (take (front p (drop i l)) (drop i l))
-        ∙ ap (λ (r : List A). keep q (take i l) ++ r) (front_none (drop i l))
-        ∙ append-nil (keep q (take i l))
-
-    pub first_gap {κ} : {B : Type κ} (f : A → B) (z : B) (l : List A) (i : ℕ) → first q f z (drop i l) ≡ first q f z (drop (i + front p (drop i l)) l)
-    first_gap f z l i = front_first f z (drop i l) ∙ ap (first q f z) (drop-drop (front p (drop i l)) i l)
 
 -- ---- a list whose first i elements are moved
 module _ {ℓ} {A : Type ℓ} (f : A → A) where
@@ -118,31 +63,11 @@ module _ {ℓ} {A : Type ℓ} (f : A → A) where
         ∙ ap (λ (k : ℕ). get_or (map f (take i l) ++ get_or l i d ∷ drop (suc i) l) k d) (sym front_length)
         ∙ get_or-append_seam (map f (take i l)) (get_or l i d) (drop (suc i) l) d
 
-  -- more from place i on, that stay up to the first that fails the test
-  pub partly_gap : (p : A → Bool) → ((a : A) → p a ≡ true → f a ≡ a) → (l : List A) (i : ℕ) → partly (i + front p (drop i l)) l ≡ partly i l
-  partly_gap p stay l i =
-      let k : ℕ = front p (drop i l) in
-      ap (λ (r : List A). map f r ++ drop (i + k) l) (take-add i k l)
-      ∙ ap (λ (r : List A). r ++ drop (i + k) l) (map-append f (take i l) (take k (drop i l)))
-      ∙ ap (λ (r : List A). (map f (take i l) ++ r) ++ drop (i + k) l) (front_stays p f stay (drop i l))
-      ∙ append_assoc (map f (take i l)) (take k (drop i l)) (drop (i + k) l)
-      ∙ ap (λ (r : List A). map f (take i l) ++ (take k (drop i l) ++ r)) (sym (drop-drop k i l))
-      ∙ ap (λ (r : List A). map f (take i l) ++ r) (take-append-drop k (drop i l))
-
   pub partly_end : (i : ℕ) (l : List A) → length l ≤ i → partly i l ≡ map f l
   partly_end i l h =
       ap (λ (r : List A). map f (take i l) ++ r) (drop_of_length-le l {i = i} h) ∙ append-nil (map f (take i l)) ∙ ap (map f) (take_all i l h)
-
-pub map-drop {ℓ κ} : {A : Type ℓ} {B : Type κ} (f : A → B) (n : ℕ) (l : List A) → map f (drop n l) ≡ drop n (map f l)
-map-drop f zero l = refl
-map-drop f (suc n) [] = refl
-map-drop f (suc n) (a ∷ l) = map-drop f n l
 
 pub map-set {ℓ κ} : {A : Type ℓ} {B : Type κ} (f : A → B) (l : List A) (i : ℕ) (a : A) → map f (set l i a) ≡ set (map f l) i (f a)
 map-set f [] i a = refl
 map-set f (b ∷ l) zero a = refl
 map-set f (b ∷ l) (suc i) a = ap (λ r. f b ∷ r) (map-set f l i a)
-
-pub map-replicate {ℓ κ} : {A : Type ℓ} {B : Type κ} (f : A → B) (n : ℕ) (a : A) → map f (replicate n a) ≡ replicate n (f a)
-map-replicate f zero a = refl
-map-replicate f (suc n) a = ap (λ r. f a ∷ r) (map-replicate f n a)

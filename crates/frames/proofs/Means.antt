@@ -4,6 +4,7 @@ use mathlib.Core.Path.{◌≡◌, refl, sym, subst}
 use mathlib.Core.Bool.{Bool, true, false, cond}
 use mathlib.Core.List.{List, [], ◌∷◌, map}
 use Prim.Native.Nat.{ℕ, zero, suc, ◌+◌, ◌-◌}
+use Rattle.std.proofs.Common.{Option}
 use lib.Ieee.{Float}
 use lib.ListN.{length, take, drop, replicate}
 use contract.Lifetimes.{Lfts}
@@ -15,18 +16,16 @@ use Rattle.detector.specs.Ewma.{idle, made_of}
 use Rattle.detector.specs.Calls.{takes, or_as_it_was}
 use Rattle.detector.proofs.Means.{FiniteMean, settings_finite}
 use Rattle.detector.proofs.Means as detector
-use Rattle.table.specs.declared.Answer.{Answer}
 use Rattle.table.specs.declared.Signal.{Signal}
 use Rattle.table.specs.declared.Entry.{Entry}
 use Rattle.table.specs.declared.Defined.{Defined}
 use Rattle.table.specs.declared.SignalIdsEngine.{SignalIdsEngine}
 use Rattle.table.specs.Rows.{pad, every}
 use Rattle.table.specs.Table.{Table, Told, accepted, refused, joined, live, detector_of, table_of, engine_of, empty_table, defined, newly, created, entry_of, below, has, appended, appended_all}
-use Rattle.table.specs.Calls.{TableCall, defines, batches, removes, told}
+use Rattle.table.specs.Calls.{TableCall, Answer, defines, batches, removes, told}
 use Rattle.table.proofs.Lists.{every_append, every_insert, every_drop, every_move}
 use Rattle.table.proofs.Accepted.{define_accepted, batch_accepted, remove_accepted}
 use Rattle.table.proofs.SignalIdsEngine.new.Reads as new
-use Rattle.frames.specs.declared.Multiplexor.{Multiplexor}
 use Rattle.frames.specs.Frames.{applies, multiplexor_of, meets, passed_over, sampled, step_of, step_row, next_of, effective_of, payload_of, processed}
 use Rattle.frames.specs.Isolation.{Call, tabled, count_asked, next_asked, framed, raw_framed, Said, after}
 use Rattle.frames.proofs.Compiled.{Compiled, compiled_says, Run, ended, step}
@@ -94,7 +93,7 @@ appended_finite (d ∷ l) t h =
     appended_finite l (appended t d)
     (record { rows = every_insert RowFinite (below (d.can_id + 1)) (entry_of t.fresh t.next d) t.rows h.fresh h.rows; fresh = h.fresh })
 
-accepted_finite : (t : Table) (c : TableCall) (a : Answer) (u : Table) → told t c ≡ accepted a u → FiniteTable t → FiniteTable u
+accepted_finite : (t : Table) (c : TableCall) (a : Answer c) (u : Table) → told t c ≡ accepted a u → FiniteTable t → FiniteTable u
 accepted_finite t (defines d) a u e h =
     subst FiniteTable (sym (define_accepted t d a u e).table)
     (record { rows = every_insert RowFinite (below d.can_id) (entry_of t.fresh t.next d) t.rows h.fresh h.rows; fresh = h.fresh })
@@ -105,7 +104,7 @@ accepted_finite t (removes s) a u e h =
 tabled_finite : (e : SignalIdsEngine) (c : TableCall) → FiniteMeans e → FiniteMeans (after e (tabled c))
 tabled_finite e c h = go (told (table_of e) c) refl
   where
-    go : (x : Told) → told (table_of e) c ≡ x → FiniteMeans (defined e x).engine
+    go : (x : Told (Answer c)) → told (table_of e) c ≡ x → FiniteMeans (defined e x).engine
     go (refused k) p = h
     go (accepted a u) p = engine_finite u (accepted_finite (table_of e) c a u p (record { rows = live_finite e h; fresh = h.fresh }))
 
@@ -115,7 +114,7 @@ sampled_finite : (t : EwmaDetector) (v : Measured) → FiniteMean t → FiniteMe
 sampled_finite t (unmeasured k) h = h
 sampled_finite t (measured v) h = detector.after_finite t (takes v) h
 
-step_finite : (s : List ℕ) (n : ℕ) (m : Multiplexor) (row : Entry) → RowFinite row → FiniteMean (step_row s n m row).detector
+step_finite : (s : List ℕ) (n : ℕ) (m : Option ℕ) (row : Entry) → RowFinite row → FiniteMean (step_row s n m row).detector
 unfolding step_of
 step_finite s n m row h = go (meets row.signal.definition.condition m)
   where
@@ -124,7 +123,7 @@ step_finite s n m row h = go (meets row.signal.definition.condition m)
     go true = sampled_finite row.detector (signal_of s n row.signal.definition) h
     go false = h
 
-next_finite : (id : ℕ) (x : Bool) (s : List ℕ) (n : ℕ) (m : Multiplexor) (row : Entry) → RowFinite row → RowFinite (next_of id x s n m row)
+next_finite : (id : ℕ) (x : Bool) (s : List ℕ) (n : ℕ) (m : Option ℕ) (row : Entry) → RowFinite row → RowFinite (next_of id x s n m row)
 next_finite id x s n m row h = go (applies id x row)
   where
     go : (b : Bool) → FiniteMean (cond b (step_row s n m row).detector row.detector)
@@ -133,7 +132,7 @@ next_finite id x s n m row h = go (applies id x row)
 
 frame_finite : (e : SignalIdsEngine) (id : ℕ) (x : Bool) (s : List ℕ) (n : ℕ) → FiniteMeans e → FiniteMeans (processed e id x s n).engine
 frame_finite e id x s n h =
-    let m : Multiplexor = multiplexor_of id x s n (live e) in
+    let m : Option ℕ = multiplexor_of id x s n (live e) in
     let rows : List Entry = map (next_of id x s n m) (live e) in
     record {
       detectors =
@@ -168,11 +167,11 @@ newly_finite (unconfigured k) h = engine_finite (empty_table idle) (record { row
 pub created_finite : (alpha threshold : Float) → FiniteMeans (created alpha threshold).engine
 created_finite alpha threshold = newly_finite (made_of alpha threshold 10 5) (settings_finite alpha threshold 10 5)
 
-module _ (κs : Lfts 0) (alpha threshold : Float) (made : Defined) (out : _) (promised : new.Learnt κs (alpha, (threshold, tt)) made out) {cs : List Call} {heard : List Said} {z : SignalIdsEngine} (run : Run made.engine cs heard z) where
+module _ (κs : Lfts 0) (alpha threshold : Float) (made : Defined Unit) (out : _) (promised : new.Learnt κs (alpha, (threshold, tt)) made out) {cs : List Call} {heard : List Said} {z : SignalIdsEngine} (run : Run made.engine cs heard z) where
   pub run_finite : FiniteMeans z
   run_finite =
       run_keeps_finite run
-      (subst (λ (d : Defined). FiniteMeans d.engine) (sym promised) (created_finite alpha threshold))
+      (subst (λ (d : Defined Unit). FiniteMeans d.engine) (sym promised) (created_finite alpha threshold))
 
   -- "the mean of every detector that our calls made and nothing else altered is finite after any calls"
   pub run_live_finite : every (λ row. FiniteMean row.detector) (live z)

@@ -6,6 +6,7 @@ use mathlib.Core.Logic.{◌⊎◌, inl, inr}
 use mathlib.Core.List.{List, [], ◌∷◌, map}
 use Prim.Native.Nat.{ℕ, suc, ◌+◌, ◌≤◌}
 use native.Mathlib.Omega.{arith}
+use Rattle.std.proofs.Common.{Option, Ok}
 use lib.Dec.{leb, eqb}
 use borrow.Author.Tests.{le-leb}
 use lib.Ieee.{Float}
@@ -32,10 +33,9 @@ use Rattle.table.proofs.Theorems.{passing}
 use Rattle.table.proofs.SignalIdsEngine.new.Reads as new
 use Rattle.frames.specs.declared.CanFrame.{CanFrame}
 use Rattle.frames.specs.declared.Counts.{Counts}
-use Rattle.frames.specs.declared.Multiplexor.{Multiplexor}
 use Rattle.frames.specs.declared.Processed.{Processed}
-use Rattle.frames.specs.declared.Reason.{Reason}
-use Rattle.frames.specs.declared.Reason.TheVariants.{BadLength, Outside, NotFinite}
+use Rattle.conversion.specs.declared.ExtractError.{ExtractError}
+use Rattle.conversion.specs.declared.ExtractError.TheVariants.{BadLength, Outside, NotFinite}
 use Rattle.frames.specs.Frames.{payload_of, effective_of, applies, multiplexor_of, meets, reason_number, reason_of, Finding, passed_over, no_value, first_sample, warming_up, scored, outcome_of, Stepped, sampled, step_of, report_of, Reported, report_means, reports, how_many, is_passed_over, no_value_by, counts_of, Framed, processed_means, processed}
 use Rattle.frames.specs.Isolation.{Call, Said}
 use Rattle.frames.proofs.Lists.{tally_cons}
@@ -46,12 +46,12 @@ use Rattle.frames.proofs.process_frame.Reads as process-frame
 use Rattle.frames.proofs.process_raw_frame.Reads as process-raw-frame
 
 -- ---- the numbers tell the reasons apart
-pub reason_known : (why : Reason) → reason_of (reason_number why) ≡ why
+pub reason_known : (why : ExtractError) → reason_of (reason_number why) ≡ why
 reason_known BadLength = refl
 reason_known Outside = refl
 reason_known NotFinite = refl
 
-pub reason_settled : (a b : Reason) → reason_number a ≡ reason_number b → a ≡ b
+pub reason_settled : (a b : ExtractError) → reason_number a ≡ reason_number b → a ≡ b
 reason_settled a b h = sym (reason_known a) ∙ ap reason_of h ∙ reason_known b
 
 -- ---- one definition that applies
@@ -93,7 +93,7 @@ module _ (s : List ℕ) (n : ℕ) (d : SignalDefinition) where
       go (was_warming f c w) = let h = heard (warming_folded t v f c w) in let z : ◌≡◌ {A = ℕ} 0 1 = cc in absurd (omega arith)
       go (was_past f p) = let h = heard (past_scored t v p f) in let z : ◌≡◌ {A = ℕ} 0 1 = cc in absurd (omega arith)
 
-  module _ (m : Multiplexor) (t : EwmaDetector) where
+  module _ (m : Option ℕ) (t : EwmaDetector) where
     heard_or_refused : (a : Measured) → signal_of s n d ≡ a
         → (is_passed_over (sampled t a).finding ≡ false) × ((k : ℕ) → no_value_by k (sampled t a).finding ≡ refused_by k a)
     heard_or_refused (measured v) e = not_ignored v (updated t v).said (value_heard t v e)
@@ -168,13 +168,13 @@ all_kinds (r ∷ l) =
     omega (arith, all_kinds l, one_kind r.finding, how_many_cons is_passed_over r l, how_many_cons (no_value_by 1) r l, how_many_cons (no_value_by 16) r l, how_many_cons (no_value_by 17) r l, how_many_cons is_first r l, how_many_cons is_warming r l, how_many_cons is_scored r l)
 
 -- ---- the rows that apply, by the condition and by extraction
-abbrev pub is_unmet : Multiplexor → Entry → Bool
+abbrev pub is_unmet : Option ℕ → Entry → Bool
 is_unmet m row = not (meets row.signal.definition.condition m)
 
-abbrev pub is_refused_by : List ℕ → ℕ → Multiplexor → ℕ → Entry → Bool
+abbrev pub is_refused_by : List ℕ → ℕ → Option ℕ → ℕ → Entry → Bool
 is_refused_by s n m k row = meets row.signal.definition.condition m && refused_by k (signal_of s n row.signal.definition)
 
-abbrev pub counts_of_rows : List ℕ → ℕ → Multiplexor → List Entry → Counts
+abbrev pub counts_of_rows : List ℕ → ℕ → Option ℕ → List Entry → Counts
 counts_of_rows s n m l =
     record {
       condition_not_met = length (keep (is_unmet m) l);
@@ -191,7 +191,7 @@ how_many_rows p q f same (row ∷ l) =
     ∙ ap (λ (k : ℕ). cond (q row) (suc k) k) (how_many_rows p q f same l)
     ∙ sym (tally_cons q row l)
 
-module _ (s : List ℕ) (n : ℕ) (m : Multiplexor) (l : List Entry) where
+module _ (s : List ℕ) (n : ℕ) (m : Option ℕ) (l : List Entry) where
   rows_by : (k : ℕ) → how_many (no_value_by k) (map (report_of s n m) l) ≡ length (keep (is_refused_by s n m k) l)
   rows_by k = how_many_rows (no_value_by k) (is_refused_by s n m k) (report_of s n m) (λ row. no_value_exactly s n row.signal.definition m row.detector k) l
 
@@ -203,12 +203,12 @@ module _ (s : List ℕ) (n : ℕ) (m : Multiplexor) (l : List Entry) where
       ∙ ap (λ (k : ℕ). (record { condition_not_met = length (keep (is_unmet m) l); outside = length (keep (is_refused_by s n m 16) l); not_finite = k })) (rows_by 17)
 
 -- ---- bad length cannot arise in a table that calls make
-pub accepted_sized : (d : SignalDefinition) → fault d ≡ 0 → sized d.bit_length ≡ true
+pub accepted_sized : (d : SignalDefinition) → fault d ≡ Ok tt → sized d.bit_length ≡ true
 accepted_sized d h =
     let p = passing d h in
     ap (λ (b : Bool). b && leb d.bit_length 64) (le-leb 1 d.bit_length p.long) ∙ le-leb d.bit_length 64 p.short
 
-never_by_length : (s : List ℕ) (n : ℕ) (d : SignalDefinition) → fault d ≡ 0 → refused_by 1 (signal_of s n d) ≡ false
+never_by_length : (s : List ℕ) (n : ℕ) (d : SignalDefinition) → fault d ≡ Ok tt → refused_by 1 (signal_of s n d) ≡ false
 never_by_length s n d h = at (signal_of s n d) refl
   where
     by : (k : ℕ) → (k ≡ cond (sized d.bit_length) 16 1) ⊎ (k ≡ 17) → eqb k 1 ≡ false
@@ -219,7 +219,7 @@ never_by_length s n d h = at (signal_of s n d) refl
     at (measured v) e = refl
     at (unmeasured k) e = by k (refused_by_number s n d k e)
 
-none_by_length : (id : ℕ) (x : Bool) (s : List ℕ) (n : ℕ) (m : Multiplexor) (next : ℕ) (l : List Entry) → every (Proper next) l
+none_by_length : (id : ℕ) (x : Bool) (s : List ℕ) (n : ℕ) (m : Option ℕ) (next : ℕ) (l : List Entry) → every (Proper next) l
     → how_many (no_value_by 1) (map (report_of s n m) (keep (applies id x) l)) ≡ 0
 none_by_length id x s n m next [] p = refl
 none_by_length id x s n m next (row ∷ l) p = go (none_by_length id x s n m next l p.1) (applies id x row)
@@ -299,7 +299,7 @@ pub raw_frame_counted : (κs : Lfts 1) (e : SignalIdsEngine) (id : ℕ) (bytes :
 raw_frame_counted κs e id bytes n r out promised = counted e id false bytes.now n r promised
 
 -- ---- after any run of compiled calls from `new`
-module _ (κs : Lfts 0) (alpha threshold : Float) (made : Defined) (out : _) (promised : new.Learnt κs (alpha, (threshold, tt)) made out)
+module _ (κs : Lfts 0) (alpha threshold : Float) (made : Defined Unit) (out : _) (promised : new.Learnt κs (alpha, (threshold, tt)) made out)
     {cs : List Call} {heard : List Said} {z : SignalIdsEngine} (run : Run made.engine cs heard z) where
   regular : Regular (table_of z)
   regular = run_regular κs alpha threshold made out promised run

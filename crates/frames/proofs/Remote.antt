@@ -8,6 +8,7 @@ use mathlib.Core.List.{List, [], ◌∷◌, ◌++◌, map, flat_map}
 use mathlib.Core.Logic.{◌⊎◌, inl, inr}
 use Prim.Native.Nat.{ℕ, zero, suc, ◌-◌, min}
 use native.Mathlib.Omega.{arith}
+use Rattle.std.proofs.Common.{Option, None}
 use lib.ListN.{length, take, replicate}
 use lib.Seq.{take-append_seam}
 use contract.Lifetimes.{Lfts}
@@ -29,11 +30,9 @@ use Rattle.table.specs.Regular.{Proper, Regular}
 use Rattle.table.proofs.Columns.{Sound}
 use Rattle.table.proofs.Lists.{every_append}
 use Rattle.frames.specs.declared.CanFrame.{CanFrame}
-use Rattle.frames.specs.declared.Multiplexor.{Multiplexor}
-use Rattle.frames.specs.declared.Multiplexor.TheVariants.{Missing}
 use Rattle.frames.specs.declared.Processed.{Processed}
-use Rattle.frames.specs.declared.Reason.{Reason}
-use Rattle.frames.specs.declared.Reason.TheVariants.{BadLength, Outside}
+use Rattle.conversion.specs.declared.ExtractError.{ExtractError}
+use Rattle.conversion.specs.declared.ExtractError.TheVariants.{BadLength, Outside}
 use Rattle.frames.specs.Frames.{payload_of, effective_of, applies, selects, numbered, number_of, multiplexor_of, meets, reason_of, Finding, passed_over, no_value, Stepped, sampled, step_of, next_of, Reported, under_slot, report_of, flagged, listed, blank_anomaly, blank_report, result_means, answered, moved, Framed, processed_means, processed, processed_frame}
 use Rattle.frames.proofs.Steps.{step_over, step_sampled}
 use Rattle.frames.proofs.Theorems.{moved-live}
@@ -55,11 +54,11 @@ no_value_lem : (s : List ℕ) (d : SignalDefinition) → signal_of s 0 d ≡ unm
 unfolding signal_of
 no_value_lem s d = ap (value_of d) (no_raw s d)
 
-no_multiplexor : (id : ℕ) (x : Bool) (s : List ℕ) (rows : List Entry) → multiplexor_of id x s 0 rows ≡ Missing
+no_multiplexor : (id : ℕ) (x : Bool) (s : List ℕ) (rows : List Entry) → multiplexor_of id x s 0 rows ≡ None
 no_multiplexor id x s [] = refl
 no_multiplexor id x s (row ∷ rows) = at (no_multiplexor id x s rows) (selects id x row)
   where
-    at : multiplexor_of id x s 0 rows ≡ Missing → (b : Bool) → cond b (number_of s 0 row.signal.definition) (multiplexor_of id x s 0 rows) ≡ Missing
+    at : multiplexor_of id x s 0 rows ≡ None → (b : Bool) → cond b (number_of s 0 row.signal.definition) (multiplexor_of id x s 0 rows) ≡ None
     at rest true = ap numbered (no_raw s row.signal.definition)
     at rest false = rest
 
@@ -72,7 +71,7 @@ valueless_at L (Only n) = passed_over
 abbrev pub valueless : SignalDefinition → Finding
 valueless d = valueless_at d.bit_length d.condition
 
-no_step : (s : List ℕ) (d : SignalDefinition) (t : EwmaDetector) → step_of s 0 Missing d t ≡ record { detector = t; finding = valueless d }
+no_step : (s : List ℕ) (d : SignalDefinition) (t : EwmaDetector) → step_of s 0 None d t ≡ record { detector = t; finding = valueless d }
 unfolding meets
 no_step s d t = at d.condition refl
   where
@@ -80,19 +79,19 @@ no_step s d t = at d.condition refl
     by true = refl
     by false = refl
 
-    at : (c : Condition) → d.condition ≡ c → step_of s 0 Missing d t ≡ record { detector = t; finding = valueless_at d.bit_length c }
+    at : (c : Condition) → d.condition ≡ c → step_of s 0 None d t ≡ record { detector = t; finding = valueless_at d.bit_length c }
     at Always e =
-        step_sampled s 0 Missing d t (ap (λ (c : Condition). meets c Missing) e)
+        step_sampled s 0 None d t (ap (λ (c : Condition). meets c None) e)
         ∙ ap (sampled t) (no_value_lem s d)
-        ∙ ap (λ (r : Reason). (record { detector = t; finding = no_value r })) (by (sized d.bit_length))
-    at (Only n) e = step_over s 0 Missing d t (ap (λ (c : Condition). meets c Missing) e)
+        ∙ ap (λ (r : ExtractError). (record { detector = t; finding = no_value r })) (by (sized d.bit_length))
+    at (Only n) e = step_over s 0 None d t (ap (λ (c : Condition). meets c None) e)
 
 -- ---- no row moves, and the reports are these
 abbrev pub quiet : Entry → Reported
 quiet row = under_slot row.signal.slot (valueless row.signal.definition)
 
 module _ (id : ℕ) (x : Bool) (s : List ℕ) where
-  row_stays : (row : Entry) → next_of id x s 0 Missing row ≡ row
+  row_stays : (row : Entry) → next_of id x s 0 None row ≡ row
   row_stays row =
       ap (λ (t : Stepped). (record { id = row.id; signal = row.signal; detector = cond (applies id x row) t.detector row.detector })) (no_step s row.signal.definition row.detector)
       ∙ at (applies id x row)
@@ -101,22 +100,22 @@ module _ (id : ℕ) (x : Bool) (s : List ℕ) where
       at true = refl
       at false = refl
 
-  rows_stay : (rows : List Entry) → map (next_of id x s 0 Missing) rows ≡ rows
+  rows_stay : (rows : List Entry) → map (next_of id x s 0 None) rows ≡ rows
   rows_stay [] = refl
   rows_stay (row ∷ rows) =
-      ap (λ (r : Entry). r ∷ map (next_of id x s 0 Missing) rows) (row_stays row) ∙ ap (λ (l : List Entry). row ∷ l) (rows_stay rows)
+      ap (λ (r : Entry). r ∷ map (next_of id x s 0 None) rows) (row_stays row) ∙ ap (λ (l : List Entry). row ∷ l) (rows_stay rows)
 
-  all_quiet : (rows : List Entry) → map (report_of s 0 Missing) rows ≡ map quiet rows
+  all_quiet : (rows : List Entry) → map (report_of s 0 None) rows ≡ map quiet rows
   all_quiet [] = refl
   all_quiet (row ∷ rows) =
-      ap (λ (t : Stepped). under_slot row.signal.slot t.finding ∷ map (report_of s 0 Missing) rows) (no_step s row.signal.definition row.detector)
+      ap (λ (t : Stepped). under_slot row.signal.slot t.finding ∷ map (report_of s 0 None) rows) (no_step s row.signal.definition row.detector)
       ∙ ap (λ (l : List Reported). quiet row ∷ l) (all_quiet rows)
 
   no_data : (e : SignalIdsEngine) → Sound e → processed e id x s 0 ≡ record { engine = e; result = answered (map quiet (keep (applies id x) (live e))) }
   no_data e good =
       let own = keep (applies id x) (live e) in
-      ap (λ (m : Multiplexor). (record { engine = moved e (map (next_of id x s 0 m) (live e)); result = answered (map (report_of s 0 m) own) })) (no_multiplexor id x s (live e))
-      ∙ ap (λ (l : List Entry). (record { engine = moved e l; result = answered (map (report_of s 0 Missing) own) })) (rows_stay (live e))
+      ap (λ (m : Option ℕ). (record { engine = moved e (map (next_of id x s 0 m) (live e)); result = answered (map (report_of s 0 m) own) })) (no_multiplexor id x s (live e))
+      ∙ ap (λ (l : List Entry). (record { engine = moved e l; result = answered (map (report_of s 0 None) own) })) (rows_stay (live e))
       ∙ ap (λ (l : List Reported). (record { engine = moved e (live e); result = answered l })) (all_quiet own)
       ∙ ap (λ (q : SignalIdsEngine). (record { engine = q; result = answered (map quiet own) })) (moved-live e good)
 
@@ -138,7 +137,7 @@ none_listed rows = ap (take 8) (none_flagged rows)
 -- ---- T-01's sentences
 -- passed over, or no value, for whatever reason
 abbrev pub Valueless : Reported → Type 0
-Valueless r = (r.finding ≡ passed_over) ⊎ ((why : Reason) × (r.finding ≡ no_value why))
+Valueless r = (r.finding ≡ passed_over) ⊎ ((why : ExtractError) × (r.finding ≡ no_value why))
 
 each_valueless : (rows : List Entry) → every Valueless (map quiet rows)
 each_valueless [] = tt
@@ -159,7 +158,7 @@ module _ (f : CanFrame) (classic : f.is_fd ≡ false) (remote : f.is_remote ≡ 
   remote_payload = other _ _ classic ∙ chosen 0 (min f.length 8) remote
 
   -- its multiplexor has no number, whatever stands in the bytes of the record
-  pub remote_multiplexor : (rows : List Entry) → multiplexor_of (effective_of f) f.is_extended f.«data» (payload_of f) rows ≡ Missing
+  pub remote_multiplexor : (rows : List Entry) → multiplexor_of (effective_of f) f.is_extended f.«data» (payload_of f) rows ≡ None
   remote_multiplexor rows =
       ap (λ (n : ℕ). multiplexor_of (effective_of f) f.is_extended f.«data» n rows) remote_payload
       ∙ no_multiplexor (effective_of f) f.is_extended f.«data» rows

@@ -4,13 +4,12 @@ use mathlib.Core.Path.{◌≡◌, refl, sym, ap, ◌∙◌, subst}
 use mathlib.Core.Bool.{Bool, false}
 use mathlib.Core.List.{List, [], ◌∷◌, ◌++◌}
 use Prim.Native.Nat.{ℕ}
-use native.Mathlib.Omega.{arith}
+use Rattle.std.proofs.Common.{Ok}
 use lib.Ieee.{Float}
 use contract.Lifetimes.{Lfts}
 use Rattle.conversion.specs.declared.SignalDefinition.{SignalDefinition}
 use Rattle.detector.specs.Answers.{Configured, configured, unconfigured}
 use Rattle.detector.specs.Ewma.{made_of, idle}
-use Rattle.table.specs.declared.Answer.TheVariants.{Slot}
 use Rattle.table.specs.declared.Signal.{Signal}
 use Rattle.table.specs.declared.Defined.{Defined}
 use Rattle.table.specs.declared.SignalIdsEngine.{SignalIdsEngine}
@@ -24,7 +23,7 @@ use Rattle.table.proofs.Regular.{follows, made_regular}
 use Rattle.table.proofs.Slots.{Known, slots_rise, live-given}
 use Rattle.table.proofs.SignalIdsEngine.new.Reads as new
 use Rattle.frames.specs.Frames.{effective_of, payload_of, multiplexor_of, next_of}
-use Rattle.frames.specs.Isolation.{Call, tabled, count_asked, next_asked, framed, raw_framed, Said, gave, said, after, ran, gives, granted}
+use Rattle.frames.specs.Isolation.{Call, tabled, count_asked, next_asked, framed, raw_framed, Said, gave_slot, said, after, ran, gives, granted}
 use Rattle.frames.proofs.Theorems.{frame_table}
 use Rattle.frames.proofs.Compiled.{Run, runs_follow}
 
@@ -83,9 +82,9 @@ new_empty : (m : Configured) → table_of (newly m).engine ≡ empty_table (newl
 new_empty (configured f) = table_engine (empty_table f)
 new_empty (unconfigured k) = table_engine (empty_table idle)
 
-module _ (κs : Lfts 0) (alpha threshold : Float) (made : Defined) (out : _) (promised : new.Learnt κs (alpha, (threshold, tt)) made out) where
+module _ (κs : Lfts 0) (alpha threshold : Float) (made : Defined Unit) (out : _) (promised : new.Learnt κs (alpha, (threshold, tt)) made out) where
   empty : table_of made.engine ≡ empty_table made.engine.fresh
-  empty = subst (λ (d : Defined). table_of d.engine ≡ empty_table d.engine.fresh) (sym promised) (new_empty (made_of alpha threshold 10 5))
+  empty = subst (λ (d : Defined Unit). table_of d.engine ≡ empty_table d.engine.fresh) (sym promised) (new_empty (made_of alpha threshold 10 5))
 
   module _ {cs : List Call} {heard : List Said} {z : SignalIdsEngine} (run : Run made.engine cs heard z) where
     vs : List Event
@@ -114,13 +113,12 @@ module _ (κs : Lfts 0) (alpha threshold : Float) (made : Defined) (out : _) (pr
         (subst (λ (t : Table). Known (table.granted (empty_table made.engine.fresh) vs) t.rows) (sym left) (live-given made.engine.fresh vs))
 
 -- ---- the slot that define answers is the one that it gives
-pub define_gives : (e : SignalIdsEngine) (d : SignalDefinition) (k : ℕ) → said e (tabled (defines d)) ≡ gave (Slot k) → gives e (tabled (defines d)) ≡ record { slot = k; definition = d } ∷ []
+pub define_gives : (e : SignalIdsEngine) (d : SignalDefinition) (k : ℕ) → said e (tabled (defines d)) ≡ gave_slot (Ok k) → gives e (tabled (defines d)) ≡ record { slot = k; definition = d } ∷ []
 define_gives e d k = go (define' (table_of e) d) refl
   where
-    go : (x : Told) → define' (table_of e) d ≡ x → gave (defined e x).answer ≡ gave (Slot k) → table.given e.next_slot (d ∷ []) x ≡ record { slot = k; definition = d } ∷ []
-    go (refused j) h a = let z : ◌≡◌ {A = ℕ} 0 1 = cc in absurd (omega arith)
+    go : (x : Told ℕ) → define' (table_of e) d ≡ x → gave_slot (defined e x).answer ≡ gave_slot (Ok k) → table.given e.next_slot (d ∷ []) x ≡ record { slot = k; definition = d } ∷ []
+    go (refused j) h a = cc
     go (accepted b u) h a =
         let f : DefineAccepted (table_of e) d b u = define_accepted (table_of e) d b u h in
-        let s : Slot e.next_slot ≡ b = sym f.answer in
-        let i : e.next_slot ≡ k = cc in
+        let i : e.next_slot ≡ k = sym f.answer ∙ (let j : b ≡ k = cc in j) in
         ap (λ (n : ℕ). record { slot = n; definition = d } ∷ []) i

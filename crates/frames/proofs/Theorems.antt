@@ -6,6 +6,7 @@ use mathlib.Core.List.{List, [], ◌∷◌, ◌++◌, map, flat_map}
 use Prim.Native.Nat.{ℕ, zero, suc, ◌+◌, ◌^◌, ◌≤◌, ◌<◌, min}
 use native.Mathlib.Omega.{arith}
 use native.Mathlib.Nat.{lt_of_lt_of_le}
+use Rattle.std.proofs.Common.{Option, Some, Ok}
 use lib.Pow.{pow_mono}
 use lib.ListN.{length, take, drop, length-append, length-take, take-append-drop}
 use Rattle.bits.specs.Answers.{Answer}
@@ -25,8 +26,6 @@ use Rattle.detector.proofs.Told.{chosen, other}
 use Rattle.table.proofs.Laws.{map-take}
 use Rattle.table.proofs.Columns.{Sound, detectors_are}
 use Rattle.table.proofs.Theorems.{passing}
-use Rattle.frames.specs.declared.Multiplexor.{Multiplexor}
-use Rattle.frames.specs.declared.Multiplexor.TheVariants.{Number}
 use Rattle.frames.specs.Frames.{applies, numbered, number_of, multiplexor_of, meets, Stepped, sampled, step_row, next_of, advanced, Reported, report_of, reports, Finding, passed_over, no_value, first_sample, warming_up, scored, is_flagged, flags, anomaly, flagged, answered, moved, processed}
 use Rattle.frames.proofs.Steps.{step_sampled}
 use Rattle.frames.proofs.Lists.{tally_cons}
@@ -74,7 +73,7 @@ few_anomalies e id x s n = omega (arith, anomaly_count_lem e id x s n)
 abbrev pub slot_of : Entry → ℕ
 slot_of row = row.signal.slot
 
-slots_same : (s : List ℕ) (n : ℕ) (m : Multiplexor) (l : List Entry) → map (λ (r : Reported). r.slot) (map (report_of s n m) l) ≡ map slot_of l
+slots_same : (s : List ℕ) (n : ℕ) (m : Option ℕ) (l : List Entry) → map (λ (r : Reported). r.slot) (map (report_of s n m) l) ≡ map slot_of l
 slots_same s n m [] = refl
 slots_same s n m (row ∷ l) = ap (λ (r : List ℕ). slot_of row ∷ r) (slots_same s n m l)
 
@@ -82,7 +81,7 @@ pub one_report_each : (id : ℕ) (x : Bool) (s : List ℕ) (n : ℕ) (rows : Lis
 one_report_each id x s n rows = slots_same s n (multiplexor_of id x s n rows) (keep (applies id x) rows)
 
 -- ---- a row that applies takes its sample, whatever is listed: a ninth anomaly's detector moves as the first one's
-pub applied_moves : (id : ℕ) (x : Bool) (s : List ℕ) (n : ℕ) (m : Multiplexor) (row : Entry) (v : _)
+pub applied_moves : (id : ℕ) (x : Bool) (s : List ℕ) (n : ℕ) (m : Option ℕ) (row : Entry) (v : _)
     → applies id x row ≡ true
     → meets row.signal.definition.condition m ≡ true
     → signal_of s n row.signal.definition ≡ measured v
@@ -122,7 +121,7 @@ module _ (e : SignalIdsEngine) (id : ℕ) (x : Bool) (s : List ℕ) (n : ℕ) wh
   only-detectors = (refl, refl, refl, refl, refl)
 
 -- ---- where no row applies the engine comes back as it was, with no report
-none_move : (id : ℕ) (x : Bool) (s : List ℕ) (n : ℕ) (m : Multiplexor) (l : List Entry) → keep (applies id x) l ≡ [] → map (next_of id x s n m) l ≡ l
+none_move : (id : ℕ) (x : Bool) (s : List ℕ) (n : ℕ) (m : Option ℕ) (l : List Entry) → keep (applies id x) l ≡ [] → map (next_of id x s n m) l ≡ l
 none_move id x s n m [] h = refl
 none_move id x s n m (row ∷ l) h = go (λ k. none_move id x s n m l k) (applies id x row) refl h
   where
@@ -145,38 +144,38 @@ pub nothing_applies : (e : SignalIdsEngine) → Sound e → (id : ℕ) (x : Bool
     → keep (applies id x) (live e) ≡ []
     → processed e id x s n ≡ record { engine = e; result = answered [] }
 nothing_applies e good id x s n h =
-    let m : Multiplexor = multiplexor_of id x s n (live e) in
+    let m : Option ℕ = multiplexor_of id x s n (live e) in
     ap (λ (l : List Entry). (record { engine = moved e l; result = answered (reports id x s n (live e)) })) (none_move id x s n m (live e) h)
     ∙ ap (λ (l : List Entry). (record { engine = moved e (live e); result = answered (map (report_of s n m) l) })) h
     ∙ ap (λ (q : SignalIdsEngine). (record { engine = q; result = answered [] })) (moved-live e good)
 
 -- ---- the multiplexor's number fits 16 bits in every table that calls make
-number_below : (s : List ℕ) (n : ℕ) (d : SignalDefinition) (k : ℕ) → fault d ≡ 0 → d.is_multiplexor ≡ true → number_of s n d ≡ Number k → k < 65536
+number_below : (s : List ℕ) (n : ℕ) (d : SignalDefinition) (k : ℕ) → fault d ≡ Ok tt → d.is_multiplexor ≡ true → number_of s n d ≡ Some k → k < 65536
 unfolding raw_signal
 number_below s n d k h f = go (raw_signal s n d) refl
   where
-    go : (a : Answer) → raw_signal s n d ≡ a → numbered a ≡ Number k → k < 65536
+    go : (a : Answer) → raw_signal s n d ≡ a → numbered a ≡ Some k → k < 65536
     go (value v) e q =
         let same : v ≡ k = cc in
         let less = (told s n d.byte_order d.start_bit d.bit_length v e).less in
         lt_of_lt_of_le (subst (λ (j : ℕ). j < 2 ^ d.bit_length) same less) (pow_mono {j = 16} ((passing d h).multiplexor f))
     go (refused r) e q = let z : ◌≡◌ {A = ℕ} 0 1 = cc in absurd (omega arith)
 
-numbers_fit : (id : ℕ) (x : Bool) (s : List ℕ) (n next : ℕ) (l : List Entry) → every (Proper next) l → (k : ℕ) → multiplexor_of id x s n l ≡ Number k → k < 65536
+numbers_fit : (id : ℕ) (x : Bool) (s : List ℕ) (n next : ℕ) (l : List Entry) → every (Proper next) l → (k : ℕ) → multiplexor_of id x s n l ≡ Some k → k < 65536
 numbers_fit id x s n next [] p k h = let z : ◌≡◌ {A = ℕ} 0 1 = cc in absurd (omega arith)
 numbers_fit id x s n next (row ∷ l) p k h =
     go (numbers_fit id x s n next l p.1 k) (applies id x row) row.signal.definition.is_multiplexor refl h
   where
-    go : (multiplexor_of id x s n l ≡ Number k → k < 65536)
+    go : (multiplexor_of id x s n l ≡ Some k → k < 65536)
         → (a b : Bool)
         → row.signal.definition.is_multiplexor ≡ b
-        → cond (cond a b false) (number_of s n row.signal.definition) (multiplexor_of id x s n l) ≡ Number k
+        → cond (cond a b false) (number_of s n row.signal.definition) (multiplexor_of id x s n l) ≡ Some k
         → k < 65536
     go rest true true f q = number_below s n row.signal.definition k p.0.passes f q
     go rest true false f q = rest q
     go rest false b f q = rest q
 
-pub number_fits : (e : SignalIdsEngine) → Regular (table_of e) → (id : ℕ) (x : Bool) (s : List ℕ) (n k : ℕ) → multiplexor_of id x s n (live e) ≡ Number k → k < 65536
+pub number_fits : (e : SignalIdsEngine) → Regular (table_of e) → (id : ℕ) (x : Bool) (s : List ℕ) (n k : ℕ) → multiplexor_of id x s n (live e) ≡ Some k → k < 65536
 number_fits e g id x s n k h = numbers_fit id x s n e.next_slot (live e) g.proper k h
 
 -- ---- a raw identifier above 0x7FF has no report in any table that calls make

@@ -2,14 +2,14 @@
 -- Here stand the calls on an engine, what a sequence of them answers and leaves, and what of it concerns a key, which is an effective identifier with a
 -- frame type (document 01, "One frame"). A run of compiled calls, which is known by their promises alone, is `Run` in proofs/Compiled.
 -- Assumes nothing.
-use Rattle.std.specs.Prelude.{Bool, true, false, cond, List, [], ◌∷◌, ◌++◌, ℕ, length}
-use Rattle.table.specs.declared.Answer.{Answer}
+use Rattle.std.specs.Prelude.{Bool, true, false, cond, List, [], ◌∷◌, ◌++◌, ℕ, length, Result}
+use Rattle.table.specs.declared.TableError.{TableError}
 use Rattle.table.specs.declared.Signal.{Signal}
 use Rattle.table.specs.declared.Entry.{Entry}
 use Rattle.table.specs.declared.SignalIdsEngine.{SignalIdsEngine}
 use Rattle.table.specs.Rows.{keep}
 use Rattle.table.specs.Table.{live, table_of, defined}
-use Rattle.table.specs.Calls.{TableCall, told, brought, given}
+use Rattle.table.specs.Calls.{TableCall, defines, batches, removes, Answer, told, brought, given}
 use Rattle.frames.specs.declared.CanFrame.{CanFrame}
 use Rattle.frames.specs.Frames.{Answered, same_key, effective_of, applies, processed, processed_frame}
 
@@ -23,13 +23,20 @@ pub data Call : Type 0 where
 
 -- what a call answers, beside the engine
 pub data Said : Type 0 where
-  gave : Answer → Said
+  gave_slot : Result ℕ TableError → Said
+  gave_nothing : Result Unit TableError → Said
   number : ℕ → Said
   saw : Answered → Said
 
+-- a call on the table by what it answers: a definition's slot, or that it is done
+abbrev pub gave : (c : TableCall) → Result (Answer c) TableError → Said
+gave (defines d) r = gave_slot r
+gave (batches ds n) r = gave_nothing r
+gave (removes s) r = gave_nothing r
+
 -- ---- what a call answers and leaves, by the functions that the promises cite
 abbrev pub said : SignalIdsEngine → Call → Said
-said e (tabled c) = gave (defined e (told (table_of e) c)).answer
+said e (tabled c) = gave c (defined e (told (table_of e) c)).answer
 said e count_asked = number (length (live e))
 said e next_asked = number e.next_slot
 said e (framed f) = saw (processed_frame e f).result

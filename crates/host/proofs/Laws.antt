@@ -1,14 +1,14 @@
 -- What a host can read off an answer: the verdict, the Rust's own score, and what `new`, `with_options` and `set_freeze_duration` answered. Assumes nothing.
 use mathlib.Core.Path.{◌≡◌, refl, sym, ap, ◌∙◌}
 use mathlib.Core.Bool.{true, cond}
+use Prim.Native.Nat.{ℕ}
 use lib.Dec.{ltb, eqb}
 use lib.Ieee.{Float}
 use lib.Ieee.Scale.{finite}
 use Rattle.detector.specs.declared.EwmaDetector.{EwmaDetector}
-use Rattle.detector.specs.declared.Made.{Made}
-use Rattle.detector.specs.declared.Made.TheVariants as made
-use Rattle.detector.specs.declared.Reset.{Reset}
-use Rattle.detector.specs.declared.Reset.TheVariants as reset
+use Rattle.std.specs.Prelude.{Result, Ok, Err}
+use Rattle.detector.specs.declared.DetectorError.{DetectorError}
+use Rattle.detector.specs.declared.DetectorError.TheVariants.{BadSettings, BadFreezeDuration}
 use Rattle.detector.specs.declared.Verdict.{Verdict}
 use Rattle.detector.specs.Answers.{Heard, ignored, first_sample, warming, scored, Score, no_score, score, rust_score, made_means, reset_means, verdict_means}
 use Rattle.detector.specs.Ewma.{updated}
@@ -59,23 +59,27 @@ score_is_finite d value = go (updated d value).said refl
 
 -- ---- refusal 0 stands beside a detector with the settings asked for and nowhere else, so an answer tells all answers apart
 
-abbrev pub made_in : MadeDetector → Made
-made_in m = cond (eqb m.refusal 0) (made.Detector m.detector) made.Refused
+-- the refusal that a number stands for
+abbrev pub error_in : ℕ → DetectorError
+error_in n = cond (eqb n 7) BadSettings BadFreezeDuration
 
-abbrev pub reset_in : MadeDetector → Reset
-reset_in m = cond (eqb m.refusal 0) (reset.Detector m.detector) reset.Refused
+abbrev pub made_in : MadeDetector → Result EwmaDetector DetectorError
+made_in m = cond (eqb m.refusal 0) (Ok m.detector) (Err (error_in m.refusal))
+
+abbrev pub reset_in : MadeDetector → Result EwmaDetector DetectorError
+reset_in = made_in
 
 module _ (otherwise : EwmaDetector) where
-  pub made_read_back : (m : Made) → made_in (handed otherwise (made_means m)) ≡ m
-  made_read_back (made.Detector d) = refl
-  made_read_back made.Refused = refl
+  pub made_read_back : (m : Result EwmaDetector DetectorError) → made_in (handed otherwise (made_means m)) ≡ m
+  made_read_back (Ok d) = refl
+  made_read_back (Err BadSettings) = refl
+  made_read_back (Err BadFreezeDuration) = refl
 
-  pub reset_read_back : (m : Reset) → reset_in (handed otherwise (reset_means m)) ≡ m
-  reset_read_back (reset.Detector d) = refl
-  reset_read_back reset.Refused = refl
+  pub reset_read_back : (m : Result EwmaDetector DetectorError) → reset_in (handed otherwise (reset_means m)) ≡ m
+  reset_read_back = made_read_back
 
-  pub handed-made-settled : (a b : Made) → handed otherwise (made_means a) ≡ handed otherwise (made_means b) → a ≡ b
+  pub handed-made-settled : (a b : Result EwmaDetector DetectorError) → handed otherwise (made_means a) ≡ handed otherwise (made_means b) → a ≡ b
   handed-made-settled a b e = sym (made_read_back a) ∙ ap made_in e ∙ made_read_back b
 
-  pub handed_reset_settled : (a b : Reset) → handed otherwise (reset_means a) ≡ handed otherwise (reset_means b) → a ≡ b
-  handed_reset_settled a b e = sym (reset_read_back a) ∙ ap reset_in e ∙ reset_read_back b
+  pub handed_reset_settled : (a b : Result EwmaDetector DetectorError) → handed otherwise (reset_means a) ≡ handed otherwise (reset_means b) → a ≡ b
+  handed_reset_settled = handed-made-settled

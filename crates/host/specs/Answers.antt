@@ -3,8 +3,7 @@
 use Rattle.std.specs.Prelude.{false}
 use Rattle.detector.specs.declared.EwmaDetector.{EwmaDetector}
 use Rattle.detector.specs.Answers.{Configured, configured, unconfigured, Heard, ignored, first_sample, warming, scored}
-use Rattle.detector.specs.Ewma.{Sampled, zero32}
-use Rattle.host.specs.declared.Answered.{Answered}
+use Rattle.detector.specs.Ewma.{zero32}
 use Rattle.host.specs.declared.MadeDetector.{MadeDetector}
 use Rattle.host.specs.declared.SampleAnswer.{SampleAnswer}
 
@@ -14,10 +13,6 @@ answer_of ignored = record { kind = 0; z_score = zero32; is_anomalous = false }
 answer_of first_sample = record { kind = 1; z_score = zero32; is_anomalous = false }
 answer_of (warming z flag) = record { kind = 2; z_score = z; is_anomalous = flag }
 answer_of (scored z flag) = record { kind = 3; z_score = z; is_anomalous = flag }
-
--- The detector after a sample, and what the host is told of the sample.
-abbrev pub answered_of : Sampled → Answered
-answered_of u = record { detector = u.detector; answer = answer_of u.said }
 
 -- A detector with the settings asked for, or the refusal's number beside the one that stands there otherwise.
 abbrev pub handed : EwmaDetector → Configured → MadeDetector

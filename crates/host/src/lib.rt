@@ -5,9 +5,9 @@
 ghost use Rattle.std.specs.Prelude.{◌≡◌};
 ghost use Rattle.detector.specs.Answers.{made_means, verdict_means};
 ghost use Rattle.detector.specs.Ewma.{idle, made_of, updated, reset_of, recalibrated};
-ghost use Rattle.host.specs.Answers.{answer_of, answered_of, handed};
+ghost use Rattle.host.specs.Answers.{answer_of, handed};
 
-use detector::{EwmaDetector, Made, Reset, Verdict};
+use detector::{DetectorError, EwmaDetector, Verdict, update_in_place};
 
 // What a sample was: kind 0 ignored, 1 first sample, 2 warming, 3 scored; a score of +0 and no flag where there is none.
 #[repr(C)]
@@ -26,84 +26,51 @@ pub struct MadeDetector {
     pub detector: EwmaDetector,
 }
 
-// The detector after a sample, and what the host is told of the sample.
-#[derive(Clone, Copy)]
-struct Answered {
-    detector: EwmaDetector,
-    answer: SampleAnswer,
-}
-
 // A verdict as a struct of numbers.
-fn answer_of(verdict: Verdict) -> SampleAnswer
-    ensures { result ≡ answer_of (verdict_means verdict) }
-{
-    match verdict {
-        Verdict::Ignored => SampleAnswer {
-            kind: 0,
-            z_score: 0.0,
-            is_anomalous: false,
-        },
-        Verdict::First => SampleAnswer {
-            kind: 1,
-            z_score: 0.0,
-            is_anomalous: false,
-        },
-        Verdict::Warming => SampleAnswer {
-            kind: 2,
-            z_score: 0.0,
-            is_anomalous: false,
-        },
-        Verdict::Scored(score) => SampleAnswer {
-            kind: 3,
-            z_score: score.z_score,
-            is_anomalous: score.is_anomalous,
-        },
+impl From<Verdict> for SampleAnswer {
+    ghost from_gives = { λ verdict answer. answer ≡ answer_of (verdict_means verdict) };
+
+    fn from(verdict: Verdict) -> SampleAnswer {
+        match verdict {
+            Verdict::Ignored => SampleAnswer {
+                kind: 0,
+                z_score: 0.0,
+                is_anomalous: false,
+            },
+            Verdict::First => SampleAnswer {
+                kind: 1,
+                z_score: 0.0,
+                is_anomalous: false,
+            },
+            Verdict::Warming => SampleAnswer {
+                kind: 2,
+                z_score: 0.0,
+                is_anomalous: false,
+            },
+            Verdict::Scored(score) => SampleAnswer {
+                kind: 3,
+                z_score: score.z_score,
+                is_anomalous: score.is_anomalous,
+            },
+        }
     }
 }
 
-// One sample on a detector by value.
-fn step(d: EwmaDetector, value: f32) -> Answered
-    ensures { result ≡ answered_of (updated d value) }
-{
-    let done = d.update(value);
-    let after = done.detector;
-    let verdict = done.verdict;
-    let answer = answer_of(verdict);
-    Answered {
-        detector: after,
-        answer,
-    }
-}
+// A detector as it was made, or `idle` beside the refusal's number.
+impl From<Result<EwmaDetector, DetectorError>> for MadeDetector {
+    ghost from_gives = { λ made answer. answer ≡ handed idle (made_means made) };
 
-// A detector as it was made, or `idle` beside the refusal.
-fn handed_over(made: Made) -> MadeDetector
-    ensures { result ≡ handed idle (made_means made) }
-{
-    match made {
-        Made::Detector(d) => MadeDetector {
-            refusal: 0,
-            detector: d,
-        },
-        Made::Refused => MadeDetector {
-            refusal: 7,
-            detector: EwmaDetector::idle(),
-        },
-    }
-}
-
-// A detector with the new freeze duration, or as it was beside the refusal.
-fn with_duration(d: EwmaDetector, duration: u32) -> MadeDetector
-    ensures { result ≡ handed d (reset_of d duration) }
-{
-    match d.set_freeze_duration(duration) {
-        Reset::Detector(next) => MadeDetector {
-            refusal: 0,
-            detector: next,
-        },
-        Reset::Refused => MadeDetector {
-            refusal: 8,
-            detector: d,
-        },
+    fn from(made: Result<EwmaDetector, DetectorError>) -> MadeDetector {
+        match made {
+            Ok(detector) => MadeDetector {
+                refusal: 0,
+                detector,
+            },
+            Err(error) => MadeDetector {
+                refusal: error as u32,
+                detector: EwmaDetector::idle(),
+            },
+        }
     }
 }
 
@@ -112,7 +79,7 @@ fn with_duration(d: EwmaDetector, duration: u32) -> MadeDetector
 pub extern "C" fn detector_new(alpha: f32, z_threshold: f32) -> MadeDetector
     ensures { result ≡ handed idle (made_of alpha z_threshold 10 5) }
 {
-    handed_over(EwmaDetector::new(alpha, z_threshold))
+    EwmaDetector::new(alpha, z_threshold).into()
 }
 
 // `EwmaDetector::with_options` for a host.
@@ -125,7 +92,7 @@ pub extern "C" fn detector_with_options(
 ) -> MadeDetector
     ensures { result ≡ handed idle (made_of alpha z_threshold freeze_duration warmup_count) }
 {
-    handed_over(EwmaDetector::with_options(alpha, z_threshold, freeze_duration, warmup_count))
+    EwmaDetector::with_options(alpha, z_threshold, freeze_duration, warmup_count).into()
 }
 
 // `update` for a host: one sample changes the lent detector in place.
@@ -133,9 +100,7 @@ pub extern "C" fn detector_with_options(
 pub extern "C" fn detector_update(detector: &mut EwmaDetector, value: f32) -> SampleAnswer
     ensures { (detector.new ≡ (updated detector.old value).detector) × (result ≡ answer_of (updated detector.old value).said) }
 {
-    let done = step(*detector, value);
-    *detector = done.detector;
-    done.answer
+    update_in_place(detector, value).into()
 }
 
 // `set_freeze_duration` for a host: the lent detector gets the new duration, or stays as it was beside refusal 8.
@@ -144,9 +109,13 @@ pub extern "C" fn detector_set_freeze_duration(detector: &mut EwmaDetector, dura
     ensures { (detector.new ≡ (handed detector.old (reset_of detector.old duration)).detector)
         × (result ≡ (handed detector.old (reset_of detector.old duration)).refusal) }
 {
-    let done = with_duration(*detector, duration);
-    *detector = done.detector;
-    done.refusal
+    match detector.set_freeze_duration(duration) {
+        Ok(next) => {
+            *detector = next;
+            0
+        }
+        Err(error) => error as u32,
+    }
 }
 
 // `recalibrate` for a host: the lent detector is calibrated in place.
@@ -154,5 +123,5 @@ pub extern "C" fn detector_set_freeze_duration(detector: &mut EwmaDetector, dura
 pub extern "C" fn detector_recalibrate(detector: &mut EwmaDetector, baseline: f32)
     ensures { detector.new ≡ recalibrated detector.old baseline }
 {
-    *detector = EwmaDetector::recalibrate(*detector, baseline);
+    *detector = detector.recalibrate(baseline);
 }

@@ -1,4 +1,5 @@
 // What a host in C or Rust links: each export calls the function of `host` of its name, and promises what that one promises.
+// The five stand here once more, since a crate is a library or a static library and not both.
 #![tactic(auto)]
 
 ghost use Rattle.std.specs.Prelude.{◌≡◌};

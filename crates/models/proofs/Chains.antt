@@ -16,15 +16,15 @@ use lib.Ieee.{Float}
 use contract.Lifetimes.{Lfts}
 use denote.MutBor.{MutBor}
 use denote.Ref.{Bor}
-use Rattle.models.specs.declared.Answer.TheVariants.{Done}
-use Rattle.models.specs.declared.Markov.{Markov}
 use Rattle.models.specs.declared.MarkovDetector.{MarkovDetector}
-use Rattle.models.specs.declared.Probability.{Probability}
-use Rattle.models.specs.declared.Probability.TheVariants.{Ratio}
+use Rattle.std.specs.Prelude.{Result, Ok}
+use Rattle.models.specs.declared.Changed.{Changed}
+use Rattle.models.specs.declared.Misfit.{Misfit}
 use Rattle.models.specs.Counts.{index_of, one_more, is_full, counted, cleared, sum_from, ratio, IsPart, answer_means}
 use Rattle.models.specs.Markov.{states_fit, cell_of, fresh_states, moving, Stated, stated, markov_means, moved, reset_states, score_of}
+use Rattle.std.proofs.lemmas.Bool.{or_parts}
 use Rattle.models.proofs.Fits.{States, states}
-use Rattle.models.proofs.Counting.{sum-set, sum-other, sum-cleared, get_d_cleared, or_left, or_right, not_full, one_more_mono, one_more_most, stays}
+use Rattle.models.proofs.Counting.{sum-set, sum-other, sum-cleared, get_d_cleared, not_full, one_more_mono, one_more_most, stays}
 use Rattle.models.proofs.Places.{cell_inside}
 use Rattle.models.proofs.Parts.{states_new, states_not, moved_done, moved_refused, states_reset, score_given}
 use Rattle.models.proofs.Between.{ratio_between}
@@ -42,13 +42,13 @@ pub record Pair : Type 0 where
 -- Calls made the model m and left these transitions and row totals, each lent what the one before it left; these pairs were observed since it was made or last
 -- reset, the last one first. A refused call leaves the model and its counts (Refusals), so it has no place here.
 pub data MadeBy : MarkovDetector → List ℕ → List ℕ → List Pair → Type 0 where
-  by_new : (κs : Lfts 2) (size : ℕ) (cells rows : MutBor (List ℕ)) (r : Markov) (s : _) → new.Learnt κs (size, (cells, (rows, tt))) r s → r.answer ≡ Done
+  by_new : (κs : Lfts 2) (size : ℕ) (cells rows : MutBor (List ℕ)) (r : Changed MarkovDetector) (s : _) → new.Learnt κs (size, (cells, (rows, tt))) r s → r.answer ≡ Ok tt
       → MadeBy r.model s.1.0.now s.1.1.0.now []
   by_observe : {m : MarkovDetector} {c t : List ℕ} {pairs : List Pair} → MadeBy m c t pairs
-      → (κs : Lfts 2) (cells rows : MutBor (List ℕ)) (from to : ℕ) (r : Markov) (s : _) → cells.now ≡ c → rows.now ≡ t
+      → (κs : Lfts 2) (cells rows : MutBor (List ℕ)) (from to : ℕ) (r : Changed MarkovDetector) (s : _) → cells.now ≡ c → rows.now ≡ t
       → observe-transition.Learnt κs (m, (cells, (rows, (from, (to, tt))))) r s → MadeBy r.model s.1.0.now s.1.1.0.now (record { from = from; to = to } ∷ pairs)
   by_reset : {m : MarkovDetector} {c t : List ℕ} {pairs : List Pair} → MadeBy m c t pairs
-      → (κs : Lfts 2) (cells rows : MutBor (List ℕ)) (r : Markov) (s : _) → cells.now ≡ c → rows.now ≡ t
+      → (κs : Lfts 2) (cells rows : MutBor (List ℕ)) (r : Changed MarkovDetector) (s : _) → cells.now ≡ c → rows.now ≡ t
       → reset.Learnt κs (m, (cells, (rows, tt))) r s → MadeBy r.model s.1.0.now s.1.1.0.now []
 
 -- what holds of every such model
@@ -220,7 +220,7 @@ module _ (m : MarkovDetector) (cells rows : List ℕ) (pairs : List Pair) (from 
         few = λ f. few_rows f (ℕ_discrete f g);
         clear = still_clear;
         below = λ f t h. still_below f t h (ℕ_discrete f g) (ℕ_discrete (f * n + t) p);
-        sums = λ e f. still_adds (or_left m.saturated (a || b) e) (or_left a b (or_right m.saturated (a || b) e)) (or_right a b (or_right m.saturated (a || b) e)) f (ℕ_discrete f g);
+        sums = λ e f. let (clear, both) = or_parts m.saturated (a || b) e in let (p, q) = or_parts a b both in still_adds clear p q f (ℕ_discrete f g);
       }
     where
       a : Bool
@@ -230,7 +230,7 @@ module _ (m : MarkovDetector) (cells rows : List ℕ) (pairs : List Pair) (from 
       b = is_full (one_more row)
 
 -- what a call that was promised so leaves
-left : (r : Markov) (c t : List ℕ) (k : ℕ) (m : MarkovDetector) (d u : List ℕ) (pairs : List Pair) → markov_means r c t ≡ stated k m d u → Sound m d u pairs → Sound r.model c t pairs
+left : (r : Changed MarkovDetector) (c t : List ℕ) (k : ℕ) (m : MarkovDetector) (d u : List ℕ) (pairs : List Pair) → markov_means r c t ≡ stated k m d u → Sound m d u pairs → Sound r.model c t pairs
 left r c t k m d u pairs h s = subst (λ (b : Stated). Sound b.model b.cells b.rows pairs) (sym h) s
 
 pub sound : {m : MarkovDetector} {c t : List ℕ} {pairs : List Pair} → MadeBy m c t pairs → Sound m c t pairs
@@ -262,7 +262,7 @@ pub not_saturated : {m : MarkovDetector} {c t : List ℕ} {pairs : List Pair} �
 not_saturated made = (sound made).clear
 
 -- and observations leave a saturated model saturated: only a reset ends that
-pub saturated_stays : (κs : Lfts 2) (m : MarkovDetector) (cells rows : MutBor (List ℕ)) (from to : ℕ) (r : Markov) (s : _) → m.saturated ≡ true
+pub saturated_stays : (κs : Lfts 2) (m : MarkovDetector) (cells rows : MutBor (List ℕ)) (from to : ℕ) (r : Changed MarkovDetector) (s : _) → m.saturated ≡ true
     → observe-transition.Learnt κs (m, (cells, (rows, (from, (to, tt))))) r s → r.model.saturated ≡ true
 saturated_stays κs m cells rows from to r s full h = go (states_fit m.size (length cells.now) (length rows.now)) refl
   where
@@ -279,15 +279,15 @@ rows_add_up made = (sound made).sums
 
 -- scores are between 0 and 1
 pub score_between : {m : MarkovDetector} {c t : List ℕ} {pairs : List Pair} → MadeBy m c t pairs
-    → (κs : Lfts 2) (cells rows : Bor (List ℕ)) (from to : ℕ) (r : Probability) (s : _) → cells.now ≡ c → rows.now ≡ t
-    → score-transition.Learnt κs (m, (cells, (rows, (from, (to, tt))))) r s → (x : Float) × (r ≡ Ratio x) × IsPart x
+    → (κs : Lfts 2) (cells rows : Bor (List ℕ)) (from to : ℕ) (r : Result Float Misfit) (s : _) → cells.now ≡ c → rows.now ≡ t
+    → score-transition.Learnt κs (m, (cells, (rows, (from, (to, tt))))) r s → (x : Float) × (r ≡ Ok x) × IsPart x
 score_between {m} {c} {t} made κs cells rows from to r s e f h =
     let is = sound made in
     let fit = states m.size (length c) (length t) is.fits in
     let cell = get_or c (cell_of m.size from to) 0 in
     let row = get_or t (index_of m.size from) 0 in (
       ratio cell row,
-      probability_settled r (Ratio (ratio cell row)) (h ∙ ap₂ (λ (x y : List ℕ). score_of m x y from to) e f ∙ score_given m c t from to is.fits),
+      probability_settled r (Ok (ratio cell row)) (h ∙ ap₂ (λ (x y : List ℕ). score_of m x y from to) e f ∙ score_given m c t from to is.fits),
       ratio_between cell row (is.below (index_of m.size from) (index_of m.size to) (mod-lt to fit.some)) (is.most (index_of m.size from)),
     )
 
@@ -300,11 +300,11 @@ pub there_are : (size : ℕ) (cells rows : List ℕ) → states_fit size (length
     → (m : MarkovDetector) × ((c : List ℕ) × ((t : List ℕ) × (MadeBy m c t pairs × (m.size ≡ size))))
 unfolding lend
 there_are size cells rows h [] =
-    (fresh_states size, (cleared cells, (cleared rows, (by_new ([], ([], tt)) size (lend cells) (lend rows) (record { answer = Done; model = fresh_states size }) (size, (lend (cleared cells), (lend (cleared rows), tt))) (sym (states_new size cells rows h)) refl, refl))))
+    (fresh_states size, (cleared cells, (cleared rows, (by_new ([], ([], tt)) size (lend cells) (lend rows) (record { answer = Ok tt; model = fresh_states size }) (size, (lend (cleared cells), (lend (cleared rows), tt))) (sym (states_new size cells rows h)) refl, refl))))
 there_are size cells rows h (e ∷ es) =
     let (m, (c, (t, (made, same)))) = there_are size cells rows h es in
     let d = counted c (cell_of m.size e.from e.to) in
     let u = counted t (index_of m.size e.from) in
-    let step : MadeBy (moving m c t e.from e.to) d u (e ∷ es) = by_observe made ([], ([], tt)) (lend c) (lend t) e.from e.to (record { answer = Done; model = moving m c t e.from e.to })
+    let step : MadeBy (moving m c t e.from e.to) d u (e ∷ es) = by_observe made ([], ([], tt)) (lend c) (lend t) e.from e.to (record { answer = Ok tt; model = moving m c t e.from e.to })
     (m, (lend d, (lend u, (e.from, (e.to, tt))))) refl refl (sym (moved_done m c t e.from e.to (sound made).fits)) in
     (moving m c t e.from e.to, (d, (u, (step, same))))

@@ -1,35 +1,17 @@
--- Laws of lent counts: all of them cleared, one more at a place, and what they add up to. Assumes nothing.
-use mathlib.Core.Path.{◌≡◌, refl, sym, ap, ap₂, ◌∙◌}
+-- Laws of lent counts: one more at a place, and what they add up to. Assumes nothing.
+use mathlib.Core.Path.{◌≡◌, refl, ap, ap₂, ◌∙◌}
 use mathlib.Core.Logic.{◌⊎◌, inl, inr}
-use mathlib.Core.Bool.{Bool, true, false, ◌||◌}
-use mathlib.Core.List.{List, [], ◌∷◌, ◌++◌}
+use mathlib.Core.Bool.{false}
+use mathlib.Core.List.{List}
 use Prim.Native.Nat.{ℕ, zero, suc, ◌+◌, ◌^◌, ◌≤◌, ◌<◌}
-use native.Mathlib.Nat.{not-suc-le-zero, le_of_suc-le-suc, lt_of_le_of_lt, min-le_right}
+use native.Mathlib.Nat.{lt_of_le_of_lt, min-le_right}
 use native.Mathlib.Decide.{ℕ_discrete}
-use native.Mathlib.Numerals.{add-one}
 use native.Mathlib.Omega.{arith}
 use borrow.Author.Tests.{eqb-false}
 use lib.Dec.{lit<}
-use lib.ListN.{length, get_or, set, drop, replicate}
+use lib.ListN.{length, get_or, set, replicate}
 use lib.Seq.{get_or-set_same, get_or-set_other}
-use Rattle.models.specs.Counts.{one_more, is_full, cleared, sum_from}
-
--- ---- clearing from the front
-
-clear_next : (l : List ℕ) (i : ℕ) → i < length l → set (replicate i 0 ++ drop i l) i 0 ≡ replicate (suc i) 0 ++ drop (suc i) l
-clear_next [] i h = absurd (not-suc-le-zero h)
-clear_next (x ∷ l) zero h = refl
-clear_next (x ∷ l) (suc i) h = ap {B = List ℕ} (λ r. 0 ∷ r) (clear_next l i (le_of_suc-le-suc h))
-
-pub clear_step : (l : List ℕ) (i : ℕ) → i < length l → set (replicate i 0 ++ drop i l) i 0 ≡ replicate (i + 1) 0 ++ drop (i + 1) l
-clear_step l i h = clear_next l i h ∙ ap (λ (k : ℕ). replicate k 0 ++ drop k l) (sym (add-one i))
-
-all_cleared : (l : List ℕ) → replicate (length l) 0 ++ drop (length l) l ≡ cleared l
-all_cleared [] = refl
-all_cleared (x ∷ l) = ap {B = List ℕ} (λ r. 0 ∷ r) (all_cleared l)
-
-pub clear_ends : (l : List ℕ) (i : ℕ) → i ≡ length l → replicate i 0 ++ drop i l ≡ cleared l
-clear_ends l i e = ap (λ (k : ℕ). replicate k 0 ++ drop k l) e ∙ all_cleared l
+use Rattle.models.specs.Counts.{one_more, is_full, sum_from}
 
 -- ---- sums
 
@@ -90,11 +72,3 @@ stays n h = omega arith
 -- what is not full after one more is one more
 pub not_full : (n : ℕ) → is_full (one_more n) ≡ false → one_more n ≡ n + 1
 not_full n h = let no = eqb-false (one_more n) 0xFFFF_FFFF_FFFF_FFFF h in omega (arith, no)
-
-pub or_left : (a b : Bool) → (a || b) ≡ false → a ≡ false
-or_left true b h = h
-or_left false b h = refl
-
-pub or_right : (a b : Bool) → (a || b) ≡ false → b ≡ false
-or_right true b h = cc
-or_right false b h = h

@@ -1,19 +1,17 @@
 -- Two results that a promise of this crate allows are equal, with what is left in the lent counts, for each public call. Assumes nothing.
 use mathlib.Core.Path.{◌≡◌, refl, sym, ap, ◌∙◌}
-use mathlib.Core.Bool.{cond}
+use mathlib.Core.Bool.{Bool, cond}
 use mathlib.Core.List.{List}
 use Prim.Native.Nat.{ℕ}
 use lib.Dec.{eqb}
 use Rattle.bits.proofs.Promise.{Determines, DeterminesLent}
-use Rattle.models.specs.declared.Answer.{Answer}
-use Rattle.models.specs.declared.Answer.TheVariants as answer
-use Rattle.models.specs.declared.Probability.{Probability}
-use Rattle.models.specs.declared.Probability.TheVariants as probability
-use Rattle.models.specs.declared.Judgement.{Judgement}
-use Rattle.models.specs.declared.Judgement.TheVariants as judgement
-use Rattle.models.specs.declared.Histogram.{Histogram}
-use Rattle.models.specs.declared.Markov.{Markov}
-use Rattle.models.specs.Counts.{answer_means, Scored, scored, unscored, probability_means}
+use Rattle.std.specs.Prelude.{Result, Ok, Err}
+use Rattle.models.specs.declared.Changed.{Changed}
+use Rattle.models.specs.declared.Misfit.{Misfit}
+use Rattle.models.specs.declared.HistogramDetector.{HistogramDetector}
+use Rattle.models.specs.declared.MarkovDetector.{MarkovDetector}
+use lib.Ieee.{Float}
+use Rattle.models.specs.Counts.{misfit, answer_means, Scored, scored, unscored, probability_means}
 use Rattle.models.specs.Histogram.{Binned, histogram_means, Judged, judged, unjudged, judgement_means}
 use Rattle.models.specs.Markov.{Stated, markov_means}
 use Rattle.models.proofs.HistogramDetector.new.Reads as new
@@ -30,47 +28,46 @@ use Rattle.models.proofs.MarkovDetector.saturated.Reads as states-saturated
 
 -- ---- the meaning of an answer tells all answers apart
 
-abbrev answer_for : ℕ → Answer
-answer_for n = cond (eqb n 0) answer.Done answer.Refused
+abbrev answer_for : ℕ → Result (Unit {0}) Misfit
+answer_for n = cond (eqb n 0) (Ok tt) (Err misfit)
 
-same_answer : (a : Answer) → answer_for (answer_means a) ≡ a
-same_answer answer.Done = refl
-same_answer answer.Refused = refl
+same_answer : (a : Result (Unit {0}) Misfit) → answer_for (answer_means a) ≡ a
+same_answer (Ok u) = refl
+same_answer (Err e) = refl
 
-pub answer_settled : (a b : Answer) → answer_means a ≡ answer_means b → a ≡ b
+pub answer_settled : (a b : Result (Unit {0}) Misfit) → answer_means a ≡ answer_means b → a ≡ b
 answer_settled a b h = sym (same_answer a) ∙ ap answer_for h ∙ same_answer b
 
-abbrev probability_for : Scored → Probability
-probability_for (scored p) = probability.Ratio p
-probability_for (unscored n) = probability.Refused
+abbrev probability_for : Scored → Result Float Misfit
+probability_for (scored p) = Ok p
+probability_for (unscored n) = Err misfit
 
-same_probability : (a : Probability) → probability_for (probability_means a) ≡ a
-same_probability (probability.Ratio p) = refl
-same_probability probability.Refused = refl
+same_probability : (a : Result Float Misfit) → probability_for (probability_means a) ≡ a
+same_probability (Ok p) = refl
+same_probability (Err e) = refl
 
-pub probability_settled : (a b : Probability) → probability_means a ≡ probability_means b → a ≡ b
+pub probability_settled : (a b : Result Float Misfit) → probability_means a ≡ probability_means b → a ≡ b
 probability_settled a b h = sym (same_probability a) ∙ ap probability_for h ∙ same_probability b
 
-abbrev judgement_for : Judged → Judgement
-judgement_for (judged flag) = cond flag judgement.Anomalous judgement.Usual
-judgement_for (unjudged n) = judgement.Refused
+abbrev judgement_for : Judged → Result Bool Misfit
+judgement_for (judged flag) = Ok flag
+judgement_for (unjudged n) = Err misfit
 
-same_judgement : (a : Judgement) → judgement_for (judgement_means a) ≡ a
-same_judgement judgement.Anomalous = refl
-same_judgement judgement.Usual = refl
-same_judgement judgement.Refused = refl
+same_judgement : (a : Result Bool Misfit) → judgement_for (judgement_means a) ≡ a
+same_judgement (Ok flag) = refl
+same_judgement (Err e) = refl
 
-pub judgement_settled : (a b : Judgement) → judgement_means a ≡ judgement_means b → a ≡ b
+pub judgement_settled : (a b : Result Bool Misfit) → judgement_means a ≡ judgement_means b → a ≡ b
 judgement_settled a b h = sym (same_judgement a) ∙ ap judgement_for h ∙ same_judgement b
 
 -- what a call that changes a model leaves, with the counts
-histogram_settled : (a b : Histogram) (c d : List ℕ) → histogram_means a c ≡ histogram_means b d → (a ≡ b) × (c ≡ d)
+histogram_settled : (a b : Changed HistogramDetector) (c d : List ℕ) → histogram_means a c ≡ histogram_means b d → (a ≡ b) × (c ≡ d)
 histogram_settled a b c d h =
     let x = answer_settled a.answer b.answer (ap (λ (r : Binned). r.number) h) in
     let m = ap (λ (r : Binned). r.model) h in
     (λ i. record { answer = x i; model = m i }, ap (λ (r : Binned). r.counts) h)
 
-markov_settled : (a b : Markov) (c d e f : List ℕ) → markov_means a c e ≡ markov_means b d f → (a ≡ b) × (◌≡◌ {A = List ℕ × List ℕ} (c, e) (d, f))
+markov_settled : (a b : Changed MarkovDetector) (c d e f : List ℕ) → markov_means a c e ≡ markov_means b d f → (a ≡ b) × (◌≡◌ {A = List ℕ × List ℕ} (c, e) (d, f))
 markov_settled a b c d e f h =
     let x = answer_settled a.answer b.answer (ap (λ (r : Stated). r.number) h) in
     let m = ap (λ (r : Stated). r.model) h in

@@ -1,27 +1,13 @@
 -- What is known of a size and of lent lengths that fit it. Assumes nothing.
-use mathlib.Core.Path.{◌≡◌, refl, sym, ◌∙◌}
-use mathlib.Core.Bool.{Bool, true, false, not, ◌&&◌}
+use mathlib.Core.Path.{◌≡◌}
+use mathlib.Core.Bool.{true, ◌&&◌}
 use Prim.Native.Nat.{ℕ, ◌*◌, ◌≤◌}
-use borrow.Author.Tests.{leb-true, eqb-true, not-true, not-false}
+use borrow.Author.Tests.{leb-true, eqb-true}
+use Rattle.std.proofs.lemmas.Bool.{and_parts}
 use lib.Dec.{leb, eqb}
 use Rattle.models.specs.Counts.{sized}
 use Rattle.models.specs.Histogram.{bins_fit}
 use Rattle.models.specs.Markov.{states_fit}
-
-pub both_left : (a b : Bool) → (a && b) ≡ true → a ≡ true
-both_left true b h = refl
-both_left false b h = h
-
-pub both_right : (a b : Bool) → (a && b) ≡ true → b ≡ true
-both_right true b h = h
-both_right false b h = cc
-
--- a call answered the truth value b, which its contract says is v, and a test of its negation went one way
-pub told_yes : {b v : Bool} → b ≡ v → not b ≡ false → v ≡ true
-told_yes {b} e t = sym e ∙ not-false b t
-
-pub told_no : {b v : Bool} → b ≡ v → not b ≡ true → v ≡ false
-told_no {b} e t = sym e ∙ not-true b t
 
 pub record Bins (size counts : ℕ) : Type 0 where
   pub some : 1 ≤ size
@@ -31,12 +17,9 @@ pub record Bins (size counts : ℕ) : Type 0 where
 pub bins : (size counts : ℕ) → bins_fit size counts ≡ true → Bins size counts
 unfolding bins_fit
 bins size counts h =
-    let s : sized size 256 ≡ true = both_left (sized size 256) (eqb counts size) h in
-    record {
-      some = leb-true 1 size (both_left (leb 1 size) (leb size 256) s);
-      most = leb-true size 256 (both_right (leb 1 size) (leb size 256) s);
-      exact = eqb-true counts size (both_right (sized size 256) (eqb counts size) h);
-    }
+    let (fits, exact) = and_parts (sized size 256) (eqb counts size) h in
+    let (some, most) = and_parts (leb 1 size) (leb size 256) fits in
+    record { some = leb-true 1 size some; most = leb-true size 256 most; exact = eqb-true counts size exact }
 
 pub record States (size cells rows : ℕ) : Type 0 where
   pub some : 1 ≤ size
@@ -47,11 +30,7 @@ pub record States (size cells rows : ℕ) : Type 0 where
 pub states : (size cells rows : ℕ) → states_fit size cells rows ≡ true → States size cells rows
 unfolding states_fit
 states size cells rows h =
-    let s : sized size 64 ≡ true = both_left (sized size 64) (eqb cells (size * size) && eqb rows size) h in
-    let l : (eqb cells (size * size) && eqb rows size) ≡ true = both_right (sized size 64) (eqb cells (size * size) && eqb rows size) h in
-    record {
-      some = leb-true 1 size (both_left (leb 1 size) (leb size 64) s);
-      most = leb-true size 64 (both_right (leb 1 size) (leb size 64) s);
-      square = eqb-true cells (size * size) (both_left (eqb cells (size * size)) (eqb rows size) l);
-      exact = eqb-true rows size (both_right (eqb cells (size * size)) (eqb rows size) l);
-    }
+    let (fits, lengths) = and_parts (sized size 64) (eqb cells (size * size) && eqb rows size) h in
+    let (some, most) = and_parts (leb 1 size) (leb size 64) fits in
+    let (square, exact) = and_parts (eqb cells (size * size)) (eqb rows size) lengths in
+    record { some = leb-true 1 size some; most = leb-true size 64 most; square = eqb-true cells (size * size) square; exact = eqb-true rows size exact }

@@ -17,17 +17,15 @@ use lib.Ieee.{Float, nan, inf, fin, lt}
 use contract.Lifetimes.{Lfts}
 use denote.MutBor.{MutBor}
 use denote.Ref.{Bor}
-use Rattle.models.specs.declared.Answer.TheVariants.{Done}
-use Rattle.models.specs.declared.Histogram.{Histogram}
 use Rattle.models.specs.declared.HistogramDetector.{HistogramDetector}
-use Rattle.models.specs.declared.Judgement.{Judgement}
-use Rattle.models.specs.declared.Judgement.TheVariants.{Anomalous}
-use Rattle.models.specs.declared.Probability.{Probability}
-use Rattle.models.specs.declared.Probability.TheVariants.{Ratio}
+use Rattle.std.specs.Prelude.{Result, Ok}
+use Rattle.models.specs.declared.Changed.{Changed}
+use Rattle.models.specs.declared.Misfit.{Misfit}
 use Rattle.models.specs.Counts.{index_of, one_more, is_full, counted, cleared, sum_from, IsPart, answer_means}
 use Rattle.models.specs.Histogram.{bins_fit, has_seen, fresh, seeing, bin_ratio, anomalous, Binned, binned, histogram_means, observed, reset_bins, probability_of, Judged, judged, unjudged, judgement_means, judged_of}
+use Rattle.std.proofs.lemmas.Bool.{or_parts}
 use Rattle.models.proofs.Fits.{Bins, bins}
-use Rattle.models.proofs.Counting.{sum-set, sum-cleared, get_d_cleared, or_left, or_right, not_full, one_more_mono, one_more_most, stays}
+use Rattle.models.proofs.Counting.{sum-set, sum-cleared, get_d_cleared, not_full, one_more_mono, one_more_most, stays}
 use Rattle.models.proofs.Marks.{marked_seen, none_marked}
 use Rattle.models.proofs.Parts.{new_done, new_refused, observed_done, observed_refused, reset_done, judged_so, judged_not, probable, silent, empty, unseen, by_ratio}
 use Rattle.models.proofs.Between.{ratio_between}
@@ -46,13 +44,13 @@ among v (b ∷ bytes) = eqb v b || among v bytes
 -- Calls made the model m and left these counts, each lent what the one before it left; these bytes were observed since it was made or last reset, the last one
 -- first. A refused call leaves the model and its counts (Refusals), so it has no place here.
 pub data MadeBy : HistogramDetector → List ℕ → List ℕ → Type 0 where
-  by_new : (κs : Lfts 1) (size : ℕ) (lent : MutBor (List ℕ)) (r : Histogram) (s : _) → new.Learnt κs (size, (lent, tt)) r s → r.answer ≡ Done
+  by_new : (κs : Lfts 1) (size : ℕ) (lent : MutBor (List ℕ)) (r : Changed HistogramDetector) (s : _) → new.Learnt κs (size, (lent, tt)) r s → r.answer ≡ Ok tt
       → MadeBy r.model s.1.0.now []
   by_observe : {m : HistogramDetector} {counts bytes : List ℕ} → MadeBy m counts bytes
-      → (κs : Lfts 1) (lent : MutBor (List ℕ)) (v : ℕ) (r : Histogram) (s : _) → lent.now ≡ counts → v < 256 → observe.Learnt κs (m, (lent, (v, tt))) r s
+      → (κs : Lfts 1) (lent : MutBor (List ℕ)) (v : ℕ) (r : Changed HistogramDetector) (s : _) → lent.now ≡ counts → v < 256 → observe.Learnt κs (m, (lent, (v, tt))) r s
       → MadeBy r.model s.1.0.now (v ∷ bytes)
   by_reset : {m : HistogramDetector} {counts bytes : List ℕ} → MadeBy m counts bytes
-      → (κs : Lfts 1) (lent : MutBor (List ℕ)) (r : Histogram) (s : _) → lent.now ≡ counts → reset.Learnt κs (m, (lent, tt)) r s
+      → (κs : Lfts 1) (lent : MutBor (List ℕ)) (r : Changed HistogramDetector) (s : _) → lent.now ≡ counts → reset.Learnt κs (m, (lent, tt)) r s
       → MadeBy r.model s.1.0.now []
 
 -- what holds of every such model
@@ -102,7 +100,7 @@ module _ (m : HistogramDetector) (counts bytes : List ℕ) (v : ℕ) (s : Sound 
         flag = flagged m.saturated bin all refl refl refl;
         most = one_more_most m.total;
         below = λ j. at j (ℕ_discrete j i);
-        sums = λ e. added (or_left m.saturated (bin || all) e) (or_left bin all (or_right m.saturated (bin || all) e)) (or_right bin all (or_right m.saturated (bin || all) e));
+        sums = λ e. let (clear, both) = or_parts m.saturated (bin || all) e in let (a, b) = or_parts bin all both in added clear a b;
       }
     where
       bin : Bool
@@ -147,7 +145,7 @@ module _ (m : HistogramDetector) (counts bytes : List ℕ) (v : ℕ) (s : Sound 
           omega arith
 
 -- what a call that was promised so leaves
-left : (r : Histogram) (c : List ℕ) (n : ℕ) (m : HistogramDetector) (d bytes : List ℕ) → histogram_means r c ≡ binned n m d → Sound m d bytes → Sound r.model c bytes
+left : (r : Changed HistogramDetector) (c : List ℕ) (n : ℕ) (m : HistogramDetector) (d bytes : List ℕ) → histogram_means r c ≡ binned n m d → Sound m d bytes → Sound r.model c bytes
 left r c n m d bytes h s = subst (λ (b : Binned). Sound b.model b.counts bytes) (sym h) s
 
 pub sound : {m : HistogramDetector} {counts bytes : List ℕ} → MadeBy m counts bytes → Sound m counts bytes
@@ -193,18 +191,18 @@ adds_up made = (sound made).sums
 -- ---- what `is_anomalous` answers
 
 -- what a promise tells where the counts fit
-told_so : (m : HistogramDetector) (counts : List ℕ) (v : ℕ) (threshold : Float) (r : Judgement) (b : Bool) → bins_fit m.size (length counts) ≡ true
+told_so : (m : HistogramDetector) (counts : List ℕ) (v : ℕ) (threshold : Float) (r : Result Bool Misfit) (b : Bool) → bins_fit m.size (length counts) ≡ true
     → anomalous m counts v threshold ≡ b → judgement_means r ≡ judged_of m counts v threshold → judgement_means r ≡ judged b
 told_so m counts v threshold r b fit is p = p ∙ judged_so m counts v threshold fit ∙ ap judged is
 
 -- A byte that was never observed since the model was made or reset is anomalous as soon as anything was and while the model is not saturated, whatever shares
 -- its bin and whatever the threshold.
 pub unseen_anomalous : {m : HistogramDetector} {counts bytes : List ℕ} {b : ℕ} → MadeBy m counts (b ∷ bytes) → m.saturated ≡ false
-    → (κs : Lfts 1) (lent : Bor (List ℕ)) (v : ℕ) (threshold : Float) (r : Judgement) (s : _) → lent.now ≡ counts → among v (b ∷ bytes) ≡ false
-    → is-anomalous.Learnt κs (m, (lent, (v, (threshold, tt)))) r s → r ≡ Anomalous
+    → (κs : Lfts 1) (lent : Bor (List ℕ)) (v : ℕ) (threshold : Float) (r : Result Bool Misfit) (s : _) → lent.now ≡ counts → among v (b ∷ bytes) ≡ false
+    → is-anomalous.Learnt κs (m, (lent, (v, (threshold, tt)))) r s → r ≡ Ok true
 unseen_anomalous {m} {counts} {bytes} {b} made clear κs lent v threshold r s same never p =
     let is = sound made in
-    judgement_settled r Anomalous (told_so m counts v threshold r true is.fits (unseen m counts v threshold clear (λ e. not_empty (length bytes) (sym is.many ∙ e)) (is.map v ∙ never))
+    judgement_settled r (Ok true) (told_so m counts v threshold r true is.fits (unseen m counts v threshold clear (λ e. not_empty (length bytes) (sym is.many ∙ e)) (is.map v ∙ never))
     (p ∙ ap (λ (l : List ℕ). judged_of m l v threshold) same))
   where
     not_empty : (n : ℕ) → min (suc n) 0xFFFF_FFFF_FFFF_FFFF ≡ 0 → ⊥
@@ -222,8 +220,8 @@ number (judged flag) = cond flag 1 0
 number (unjudged n) = 2
 
 -- what is not anomalous is not flagged
-flags_none : (m : HistogramDetector) (counts : List ℕ) (v : ℕ) (threshold : Float) (r : Judgement) → anomalous m counts v threshold ≡ false
-    → judgement_means r ≡ judged_of m counts v threshold → r ≡ Anomalous → ⊥
+flags_none : (m : HistogramDetector) (counts : List ℕ) (v : ℕ) (threshold : Float) (r : Result Bool Misfit) → anomalous m counts v threshold ≡ false
+    → judgement_means r ≡ judged_of m counts v threshold → r ≡ Ok true → ⊥
 flags_none m counts v threshold r is p flagged = go (bins_fit m.size (length counts)) refl
   where
     go : (b : Bool) → bins_fit m.size (length counts) ≡ b → ⊥
@@ -235,8 +233,8 @@ flags_none m counts v threshold r is p flagged = go (bins_fit m.size (length cou
         absurd (omega arith)
 
 -- A NaN as threshold flags no byte that was seen: for every model, whoever made it, with every count.
-pub nan_flags_no_seen : (κs : Lfts 1) (m : HistogramDetector) (lent : Bor (List ℕ)) (v : ℕ) (r : Judgement) (s : _) → has_seen m.seen v ≡ true
-    → is-anomalous.Learnt κs (m, (lent, (v, (nan, tt)))) r s → r ≡ Anomalous → ⊥
+pub nan_flags_no_seen : (κs : Lfts 1) (m : HistogramDetector) (lent : Bor (List ℕ)) (v : ℕ) (r : Result Bool Misfit) (s : _) → has_seen m.seen v ≡ true
+    → is-anomalous.Learnt κs (m, (lent, (v, (nan, tt)))) r s → r ≡ Ok true → ⊥
 nan_flags_no_seen κs m lent v r s seen p flagged = flags_none m lent.now v nan r (quiet m.saturated refl (ℕ_discrete m.total 0)) p flagged
   where
     quiet : (b : Bool) → m.saturated ≡ b → Dec (m.total ≡ 0) → anomalous m lent.now v nan ≡ false
@@ -245,12 +243,12 @@ nan_flags_no_seen κs m lent v r s seen p flagged = flags_none m lent.now v nan 
     quiet false e (no n) = by_ratio m lent.now v nan e n seen ∙ below_no_nan (bin_ratio m lent.now v)
 
 -- A saturated model raises nothing, whatever the threshold.
-pub saturated_silent : (κs : Lfts 1) (m : HistogramDetector) (lent : Bor (List ℕ)) (v : ℕ) (threshold : Float) (r : Judgement) (s : _) → m.saturated ≡ true
-    → is-anomalous.Learnt κs (m, (lent, (v, (threshold, tt)))) r s → r ≡ Anomalous → ⊥
+pub saturated_silent : (κs : Lfts 1) (m : HistogramDetector) (lent : Bor (List ℕ)) (v : ℕ) (threshold : Float) (r : Result Bool Misfit) (s : _) → m.saturated ≡ true
+    → is-anomalous.Learnt κs (m, (lent, (v, (threshold, tt)))) r s → r ≡ Ok true → ⊥
 saturated_silent κs m lent v threshold r s full p flagged = flags_none m lent.now v threshold r (silent m lent.now v threshold full) p flagged
 
 -- And observations leave it saturated: only a reset ends that.
-pub saturated_stays : (κs : Lfts 1) (m : HistogramDetector) (lent : MutBor (List ℕ)) (v : ℕ) (r : Histogram) (s : _) → m.saturated ≡ true
+pub saturated_stays : (κs : Lfts 1) (m : HistogramDetector) (lent : MutBor (List ℕ)) (v : ℕ) (r : Changed HistogramDetector) (s : _) → m.saturated ≡ true
     → observe.Learnt κs (m, (lent, (v, tt))) r s → r.model.saturated ≡ true
 saturated_stays κs m lent v r s full p = go (bins_fit m.size (length lent.now)) refl
   where
@@ -261,7 +259,7 @@ saturated_stays κs m lent v r s full p = go (bins_fit m.size (length lent.now))
 -- Observations one after the other, each with whatever counts were lent to it.
 pub data Observing : HistogramDetector → HistogramDetector → Type 0 where
   ended : (m : HistogramDetector) → Observing m m
-  then : {m z : HistogramDetector} (κs : Lfts 1) (lent : MutBor (List ℕ)) (v : ℕ) (r : Histogram) (s : _) → observe.Learnt κs (m, (lent, (v, tt))) r s
+  then : {m z : HistogramDetector} (κs : Lfts 1) (lent : MutBor (List ℕ)) (v : ℕ) (r : Changed HistogramDetector) (s : _) → observe.Learnt κs (m, (lent, (v, tt))) r s
       → Observing r.model z → Observing m z
 
 still_saturated : {m z : HistogramDetector} → Observing m z → m.saturated ≡ true → z.saturated ≡ true
@@ -270,19 +268,19 @@ still_saturated (then {m} κs lent v r s p rest) full = still_saturated rest (sa
 
 -- So once a model is saturated no byte is anomalous, whatever is observed, until it is reset.
 pub silent_until_reset : {m z : HistogramDetector} → Observing m z → m.saturated ≡ true
-    → (κs : Lfts 1) (lent : Bor (List ℕ)) (v : ℕ) (threshold : Float) (r : Judgement) (s : _) → is-anomalous.Learnt κs (z, (lent, (v, (threshold, tt)))) r s → r ≡ Anomalous → ⊥
+    → (κs : Lfts 1) (lent : Bor (List ℕ)) (v : ℕ) (threshold : Float) (r : Result Bool Misfit) (s : _) → is-anomalous.Learnt κs (z, (lent, (v, (threshold, tt)))) r s → r ≡ Ok true → ⊥
 silent_until_reset {m} {z} run full κs lent v threshold r s p = saturated_silent κs z lent v threshold r s (still_saturated run full) p
 
 -- ---- what `probability` answers: between 0 and 1
 
 pub probability_between : {m : HistogramDetector} {counts bytes : List ℕ} → MadeBy m counts bytes
-    → (κs : Lfts 1) (lent : Bor (List ℕ)) (v : ℕ) (r : Probability) (s : _) → lent.now ≡ counts → probability.Learnt κs (m, (lent, (v, tt))) r s
-    → (x : Float) × (r ≡ Ratio x) × IsPart x
+    → (κs : Lfts 1) (lent : Bor (List ℕ)) (v : ℕ) (r : Result Float Misfit) (s : _) → lent.now ≡ counts → probability.Learnt κs (m, (lent, (v, tt))) r s
+    → (x : Float) × (r ≡ Ok x) × IsPart x
 probability_between {m} {counts} made κs lent v r s same p =
     let is = sound made in
     let i = index_of m.size v in (
       bin_ratio m counts v,
-      probability_settled r (Ratio (bin_ratio m counts v)) (p ∙ ap (λ (l : List ℕ). probability_of m l v) same ∙ probable m counts v is.fits),
+      probability_settled r (Ok (bin_ratio m counts v)) (p ∙ ap (λ (l : List ℕ). probability_of m l v) same ∙ probable m counts v is.fits),
       ratio_between (get_or counts i 0) m.total (is.below i) is.most,
     )
 
@@ -299,7 +297,7 @@ pub there_are : (size : ℕ) (counts : List ℕ) → bins_fit size (length count
     → (m : HistogramDetector) × ((c : List ℕ) × (MadeBy m c bytes × (m.size ≡ size)))
 unfolding lend
 there_are size counts h [] all =
-    (fresh size, (cleared counts, (by_new ([], tt) size (lend counts) (record { answer = Done; model = fresh size }) (size, (lend (cleared counts), tt)) (sym (new_done size counts h)) refl, refl)))
+    (fresh size, (cleared counts, (by_new ([], tt) size (lend counts) (record { answer = Ok tt; model = fresh size }) (size, (lend (cleared counts), tt)) (sym (new_done size counts h)) refl, refl)))
 there_are size counts h (b ∷ bytes) all =
     let (m, (c, (made, same))) = there_are size counts h bytes all.1 in
-    (seeing m c b, (counted c (index_of m.size b), (by_observe made ([], tt) (lend c) b (record { answer = Done; model = seeing m c b }) (m, (lend (counted c (index_of m.size b)), (b, tt))) refl all.0 (sym (observed_done m c b (sound made).fits)), same)))
+    (seeing m c b, (counted c (index_of m.size b), (by_observe made ([], tt) (lend c) b (record { answer = Ok tt; model = seeing m c b }) (m, (lend (counted c (index_of m.size b)), (b, tt))) refl all.0 (sym (observed_done m c b (sound made).fits)), same)))

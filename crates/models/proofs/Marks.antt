@@ -7,8 +7,8 @@ use Prim.Native.Nat.{ℕ, zero, suc, ◌+◌, ◌-◌, ◌*◌, ◌/◌, ◌%◌
 use native.Mathlib.Nat.{zero-div, one-mul, add_comm, add-mul, mul-le-mul_right, le_of_eq, lt_of_lt_of_le, mod-lt, div-add-mod', div-lt_iff_lt-mul, add-mul-div_right, div-div-eq-div-mul}
 use native.Mathlib.Decide.{ℕ_discrete, dec_lt}
 use native.Mathlib.Omega.{arith}
-use borrow.Author.Tests.{eqb-false, eq-eqb, ne_eqb, lt-ltb, le-ltb}
-use lib.Dec.{eqb, ltb}
+use borrow.Author.Tests.{eqb-false, eq-eqb, ne_eqb}
+use lib.Dec.{eqb}
 use lib.ListN.{get_or, set}
 use lib.Seq.{get_or-set_same, get_or-set_other}
 use lib.Pow.{pow-add, pow_pos}
@@ -81,21 +81,6 @@ four a b c d x (suc zero) h = refl
 four a b c d x (suc (suc zero)) h = refl
 four a b c d x (suc (suc (suc zero))) h = refl
 four a b c d x (suc (suc (suc (suc k)))) h = absurd (omega arith)
-
--- the word of a byte, chosen by its two highest bits
-pub chosen_word : (a b c d v : ℕ) → v < 256 → cond (ltb (v % 128) 64) (cond (ltb v 128) a c) (cond (ltb v 128) b d) ≡ get_or (a ∷ b ∷ c ∷ d ∷ []) (v / 64) 0
-chosen_word a b c d v h = go (v / 64) refl
-  where
-    at : (p q : Bool) (k : ℕ) → ltb (v % 128) 64 ≡ p → ltb v 128 ≡ q → v / 64 ≡ k → cond p (cond q a c) (cond q b d) ≡ get_or (a ∷ b ∷ c ∷ d ∷ []) k 0
-        → cond (ltb (v % 128) 64) (cond (ltb v 128) a c) (cond (ltb v 128) b d) ≡ get_or (a ∷ b ∷ c ∷ d ∷ []) (v / 64) 0
-    at p q k e f g is = ap₂ (λ (s t : Bool). cond s (cond t a c) (cond t b d)) e f ∙ is ∙ ap (λ (j : ℕ). get_or (a ∷ b ∷ c ∷ d ∷ []) j 0) (sym g)
-
-    go : (k : ℕ) → v / 64 ≡ k → cond (ltb (v % 128) 64) (cond (ltb v 128) a c) (cond (ltb v 128) b d) ≡ get_or (a ∷ b ∷ c ∷ d ∷ []) (v / 64) 0
-    go zero e = at true true 0 (lt-ltb (v % 128) 64 (omega arith)) (lt-ltb v 128 (omega arith)) e refl
-    go (suc zero) e = at false true 1 (le-ltb (v % 128) 64 (omega arith)) (lt-ltb v 128 (omega arith)) e refl
-    go (suc (suc zero)) e = at true false 2 (lt-ltb (v % 128) 64 (omega arith)) (le-ltb v 128 (omega arith)) e refl
-    go (suc (suc (suc zero))) e = at false false 3 (le-ltb (v % 128) 64 (omega arith)) (le-ltb v 128 (omega arith)) e refl
-    go (suc (suc (suc (suc k)))) e = absurd (omega arith)
 
 -- a word of 64 bits whose bit k is 0 has room for 2 ^ k
 pub room : (x k : ℕ) → x < 2 ^ 64 → k < 64 → eqb (bit x k) 1 ≡ false → x + 2 ^ k < 2 ^ 64

@@ -1,5 +1,5 @@
 -- The parts of each call's answer, one for each way out of it. Assumes nothing.
-use mathlib.Core.Path.{◌≡◌, refl, sym, ap, ap₂, ◌∙◌}
+use mathlib.Core.Path.{◌≡◌, sym, ap, ap₂, ◌∙◌}
 use mathlib.Core.Bool.{Bool, true, false, cond, ◌||◌}
 use mathlib.Core.List.{List}
 use Prim.Native.Nat.{ℕ, ◌+◌, ◌<◌}
@@ -15,7 +15,8 @@ use Rattle.models.specs.declared.HistogramDetector.{HistogramDetector}
 use Rattle.models.specs.declared.MarkovDetector.{MarkovDetector}
 use Rattle.models.specs.Counts.{index_of, one_more, is_full, both_more, counted, cleared, ratio, scored, unscored}
 use Rattle.models.specs.Histogram.{bins_fit, has_seen, marked, fresh, seeing, bin_ratio, anomalous, binned, new_bins, observed, reset_bins, probability_of, judged, unjudged, judged_of}
-use Rattle.models.proofs.Counting.{or_left, or_right}
+use Rattle.std.proofs.Math.Bool.{or-false}
+use Rattle.std.proofs.lemmas.Bool.{or_parts}
 use Rattle.models.specs.Markov.{states_fit, cell_of, fresh_states, moving, stated, new_states, moved, reset_states, score_of}
 
 chosen : {A : Type 0} {b : Bool} (x y : A) → b ≡ true → cond b x y ≡ x
@@ -35,16 +36,13 @@ far n h = let e = grows n h in ne_eqb (one_more n) 0xFFFF_FFFF_FFFF_FFFF (λ f. 
 pub both_far : (a b : ℕ) (flag : Bool) → (leb 0x8000_0000_0000_0000 a || leb 0x8000_0000_0000_0000 b) ≡ false
     → ◌≡◌ {A = Grown} (record { count = a + 1; total = b + 1; saturated = flag }) (both_more a b flag)
 both_far a b flag h =
-    let g = leb-false 0x8000_0000_0000_0000 a (or_left (leb 0x8000_0000_0000_0000 a) (leb 0x8000_0000_0000_0000 b) h) in
-    let k = leb-false 0x8000_0000_0000_0000 b (or_right (leb 0x8000_0000_0000_0000 a) (leb 0x8000_0000_0000_0000 b) h) in
+    let (p, q) = or_parts (leb 0x8000_0000_0000_0000 a) (leb 0x8000_0000_0000_0000 b) h in
+    let g = leb-false 0x8000_0000_0000_0000 a p in
+    let k = leb-false 0x8000_0000_0000_0000 b q in
     let x = grows a g in
     let y = grows b k in
-    let z : (flag || (is_full (one_more a) || is_full (one_more b))) ≡ flag = ap₂ (λ (s t : Bool). flag || (s || t)) (far a g) (far b k) ∙ unset flag in
+    let z : (flag || (is_full (one_more a) || is_full (one_more b))) ≡ flag = ap₂ (λ (s t : Bool). flag || (s || t)) (far a g) (far b k) ∙ or-false flag in
     λ i. record { count = sym x i; total = sym y i; saturated = sym z i }
-  where
-    unset : (flag : Bool) → (flag || false) ≡ flag
-    unset true = refl
-    unset false = refl
 
 -- ---- what is anomalous
 

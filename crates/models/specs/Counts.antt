@@ -1,13 +1,11 @@
 -- Document 02, T-04: what both models do with their lent counts, as source document 001 has it.
 -- Assumes nothing.
-use Rattle.std.specs.Prelude.{Bool, ◌&&◌, ◌||◌, cond, List, ℕ, zero, suc, ◌+◌, ◌%◌, min, T, leb, eqb, pos, length, get_or, set, replicate, Float}
+use Rattle.std.specs.Prelude.{Bool, ◌&&◌, ◌||◌, cond, List, ℕ, zero, suc, ◌+◌, ◌%◌, min, T, leb, eqb, pos, Result, Ok, Err, length, get_or, set, replicate, Float}
 use Rattle.std.specs.Float.{binary32}
 use Rattle.std.specs.Float.Ieee.{of_bits, of_int, div, le}
 use Rattle.models.specs.declared.Grown.{Grown}
-use Rattle.models.specs.declared.Answer.{Answer}
-use Rattle.models.specs.declared.Answer.TheVariants as answer
-use Rattle.models.specs.declared.Probability.{Probability}
-use Rattle.models.specs.declared.Probability.TheVariants as probability
+use Rattle.models.specs.declared.Changed.{Changed}
+use Rattle.models.specs.declared.Misfit.{Misfit}
 
 -- The size is a number, 1 to so many.
 abbrev pub sized : ℕ → ℕ → Bool
@@ -53,16 +51,27 @@ IsPart p = T (le (of_bits binary32 0) p) × T (le p (of_bits binary32 0x3F80_000
 
 -- ---- answers: a number of the documents stands for each case
 
+-- The one misfit.
+abbrev pub misfit : Misfit
+misfit = record {}
+
 -- A call that changes a model is done, or is refused by 18.
-abbrev pub answer_means : Answer → ℕ
-answer_means answer.Done = 0
-answer_means answer.Refused = 18
+abbrev pub answer_means : Result (Unit {0}) Misfit → ℕ
+answer_means (Ok _) = 0
+answer_means (Err _) = 18
+
+-- What such a call returns that was done, and one that was refused, with the model after it.
+abbrev pub done : {M : Type 0} → M → Changed M
+done m = record { answer = Ok tt; model = m }
+
+abbrev pub refused : {M : Type 0} → M → Changed M
+refused m = record { answer = Err misfit; model = m }
 
 -- A probability, or a refusal by its number.
 pub data Scored : Type 0 where
   scored : Float → Scored
   unscored : ℕ → Scored
 
-abbrev pub probability_means : Probability → Scored
-probability_means (probability.Ratio p) = scored p
-probability_means probability.Refused = unscored 18
+abbrev pub probability_means : Result Float Misfit → Scored
+probability_means (Ok p) = scored p
+probability_means (Err _) = unscored 18

@@ -1,12 +1,11 @@
 -- Document 02, T-04: `HistogramDetector`, as source document 001 has it. m is a model, counts are its lent counts, one for each bin.
 -- Assumes nothing.
-use Rattle.std.specs.Prelude.{Bool, true, false, ◌&&◌, ◌||◌, cond, List, [], ◌∷◌, ℕ, ◌+◌, ◌/◌, ◌%◌, ◌^◌, eqb, length, get_or, set, Float}
+use Rattle.std.specs.Prelude.{Bool, true, false, ◌&&◌, ◌||◌, cond, List, [], ◌∷◌, ℕ, ◌+◌, ◌/◌, ◌%◌, ◌^◌, eqb, length, get_or, set, Float, Result, Ok, Err}
 use Rattle.std.specs.Float.Ieee.{lt}
 use Rattle.models.specs.declared.Seen.{Seen}
 use Rattle.models.specs.declared.HistogramDetector.{HistogramDetector}
-use Rattle.models.specs.declared.Histogram.{Histogram}
-use Rattle.models.specs.declared.Judgement.{Judgement}
-use Rattle.models.specs.declared.Judgement.TheVariants.{Anomalous, Usual, Refused}
+use Rattle.models.specs.declared.Changed.{Changed}
+use Rattle.models.specs.declared.Misfit.{Misfit}
 use Rattle.models.specs.Counts.{sized, index_of, one_more, is_full, counted, cleared, ratio, answer_means, Scored, scored, unscored}
 
 -- 1 to 256 bins, and lent counts of exactly that number.
@@ -70,7 +69,7 @@ pub record Binned : Type 0 where
 abbrev pub binned : ℕ → HistogramDetector → List ℕ → Binned
 binned n m c = record { number = n; model = m; counts = c }
 
-abbrev pub histogram_means : Histogram → List ℕ → Binned
+abbrev pub histogram_means : Changed HistogramDetector → List ℕ → Binned
 histogram_means r counts = binned (answer_means r.answer) r.model counts
 
 unfoldable pub new_bins : ℕ → List ℕ → Binned
@@ -90,10 +89,9 @@ pub data Judged : Type 0 where
   judged : Bool → Judged
   unjudged : ℕ → Judged
 
-abbrev pub judgement_means : Judgement → Judged
-judgement_means Anomalous = judged true
-judgement_means Usual = judged false
-judgement_means Refused = unjudged 18
+abbrev pub judgement_means : Result Bool Misfit → Judged
+judgement_means (Ok flag) = judged flag
+judgement_means (Err _) = unjudged 18
 
 unfoldable pub judged_of : HistogramDetector → List ℕ → ℕ → Float → Judged
 judged_of m counts v threshold = cond (bins_fit m.size (length counts)) (judged (anomalous m counts v threshold)) (unjudged 18)

@@ -2,7 +2,7 @@
 -- Assumes nothing.
 use Rattle.std.specs.Prelude.{Bool, false, ◌&&◌, ◌||◌, cond, List, ℕ, ◌+◌, ◌*◌, eqb, length, get_or}
 use Rattle.models.specs.declared.MarkovDetector.{MarkovDetector}
-use Rattle.models.specs.declared.Markov.{Markov}
+use Rattle.models.specs.declared.Changed.{Changed}
 use Rattle.models.specs.Counts.{sized, index_of, one_more, is_full, counted, cleared, ratio, answer_means, Scored, scored, unscored}
 
 -- 1 to 64 states, lent transitions of exactly the square of that number, and lent row totals of exactly that number.
@@ -39,7 +39,7 @@ pub record Stated : Type 0 where
 abbrev pub stated : ℕ → MarkovDetector → List ℕ → List ℕ → Stated
 stated n m c r = record { number = n; model = m; cells = c; rows = r }
 
-abbrev pub markov_means : Markov → List ℕ → List ℕ → Stated
+abbrev pub markov_means : Changed MarkovDetector → List ℕ → List ℕ → Stated
 markov_means r cells rows = stated (answer_means r.answer) r.model cells rows
 
 unfoldable pub new_states : ℕ → List ℕ → List ℕ → Stated

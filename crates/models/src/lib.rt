@@ -3,23 +3,24 @@
 // Every call takes any model and any counts; a refusal returns the model that came in and leaves the counts.
 #![tactic(auto)]
 
-ghost use Rattle.std.specs.Prelude.{◌≡◌, true, ◌||◌, cond, ◌*◌, ◌%◌, ◌^◌, ◌≤◌, ◌<◌, pos, length};
+ghost use Rattle.std.specs.Prelude.{◌≡◌, IfOk, is_ok, ◌*◌, ◌%◌, ◌^◌, ◌≤◌, ◌<◌, pos, length};
 ghost use Rattle.std.specs.Float.{binary32};
 ghost use Rattle.std.specs.Float.Ieee.{of_int};
-ghost use Rattle.models.specs.Counts.{sized, index_of, one_more, both_more, cleared, ratio, probability_means};
+ghost use Rattle.models.specs.Counts.{sized, index_of, both_more, ratio, done, refused, probability_means};
 ghost use Rattle.models.specs.Histogram.{bins_fit, none_seen, word_of, has_seen, marked, fresh, bin_ratio, anomalous, histogram_means, new_bins, observed, reset_bins, probability_of, judged, judgement_means, judged_of};
 ghost use Rattle.models.specs.Markov.{states_fit, cell_of, fresh_states, markov_means, new_states, moved, reset_states, score_of};
 
 use conversion::nearest_u64;
 
-// The largest count; one that has reached it is full and stays.
-const FULL: u64 = 0xFFFF_FFFF_FFFF_FFFF;
-
 // Counts below this are far from full.
-const HALF: u64 = 0x8000_0000_0000_0000;
+const HALF: u64 = 1 << 63;
+
+// An f32 holds each whole number up to this one.
+const EXACT: u64 = 1 << 24;
 
 // The map of the bytes that were seen, a bit for each: the word of the bytes from 0 on, from 64, from 128 and from 192.
-#[derive(Clone, Copy)]
+// Four words and no array: a model goes by value, and an array in it would be copied through memory with each call.
+#[derive(Clone, Copy, Default)]
 pub struct Seen {
     pub from_0: u64,
     pub from_64: u64,
@@ -43,40 +44,15 @@ pub struct MarkovDetector {
     pub saturated: bool,
 }
 
-// What a call that changes a model answers: it was done, or refusal 18.
-#[derive(Clone, Copy)]
-pub enum Answer {
-    Done,
-    Refused,
-}
+// Refusal 18: the size is out of range, or the lent counts do not fit it.
+#[derive(Clone, Copy, Debug, PartialEq, Eq)]
+pub struct Misfit;
 
-// What a call that changes a histogram returns: its answer, and the model after it.
+// What a call that changes a model returns: its answer, and the model after it.
 #[derive(Clone, Copy)]
-pub struct Histogram {
-    pub answer: Answer,
-    pub model: HistogramDetector,
-}
-
-// What a call that changes a Markov model returns: its answer, and the model after it.
-#[derive(Clone, Copy)]
-pub struct Markov {
-    pub answer: Answer,
-    pub model: MarkovDetector,
-}
-
-// What a call that asks how probable something is answers: the ratio, or refusal 18.
-#[derive(Clone, Copy)]
-pub enum Probability {
-    Ratio(f32),
-    Refused,
-}
-
-// What `is_anomalous` answers: yes, no, or refusal 18.
-#[derive(Clone, Copy)]
-pub enum Judgement {
-    Anomalous,
-    Usual,
-    Refused,
+pub struct Changed<M> {
+    pub answer: Result<(), Misfit>,
+    pub model: M,
 }
 
 // A count and the total that it is part of, each with one more, and the flag then, which is set where one of them is full.
@@ -91,33 +67,19 @@ struct Grown {
 fn is_sized(size: usize, most: usize) -> bool
     ensures { result ≡ sized size most }
 {
-    1 <= size && size <= most
+    (1..=most).contains(&size)
 }
 
-// Whether at least one of two is true.
-fn either(a: bool, b: bool) -> bool
-    ensures { result ≡ (a || b) }
-{
-    if a { true } else { b }
-}
-
-// One more, up to the largest count.
-fn one_more(n: u64) -> u64
-    ensures { result ≡ one_more n }
-{
-    if n < FULL { n + 1 } else { n }
-}
-
-// One more of both, where one may become full.
+// One more of both, where one may become full: the largest count stays.
 fn saturating(count: u64, total: u64, saturated: bool) -> Grown
     ensures { result ≡ both_more count total saturated }
 {
-    let next = one_more(count);
-    let sum = one_more(total);
+    let next = count.saturating_add(1);
+    let sum = total.saturating_add(1);
     Grown {
         count: next,
         total: sum,
-        saturated: either(saturated, either(next == FULL, sum == FULL)),
+        saturated: saturated || next == u64::MAX || sum == u64::MAX,
     }
 }
 
@@ -125,7 +87,7 @@ fn saturating(count: u64, total: u64, saturated: bool) -> Grown
 fn count_one(count: u64, total: u64, saturated: bool) -> Grown
     ensures { result ≡ both_more count total saturated }
 {
-    if either(HALF <= count, HALF <= total) {
+    if HALF <= count || HALF <= total {
         return saturating(count, total, saturated);
     }
     Grown {
@@ -135,42 +97,30 @@ fn count_one(count: u64, total: u64, saturated: bool) -> Grown
     }
 }
 
-// Every count made 0.
-fn clear(counts: &mut [u64])
-    ensures { counts.new ≡ cleared counts.old }
-{
-    let mut i = 0;
-    while i < counts.len() {
-        counts[i] = 0;
-        i += 1;
-    }
-}
-
-// The index of a byte, which is the byte modulo the size: by a mask where the size is a power of two, as the Rust does it.
+// The index of a byte, which is the byte modulo the size: by a mask where the size is a power of two. Both are of 8 bits, which is faster.
 fn index(value: u8, size: usize) -> usize
     requires { (1 ≤ size) × (size ≤ 256) }
     ensures { (result ≡ index_of size value) × (result < size) }
 {
-    let mask = size - 1;
-    if (size & mask) == 0 {
-        return (value & (mask as u8)) as usize;
+    if size.is_power_of_two() {
+        return usize::from(value & ((size - 1) as u8));
     }
-    (value % (size as u8)) as usize
+    usize::from(value % (size as u8))
 }
 
 // The place of a transition: row after row, the row that of `from`, the place in it that of `to`.
 fn cell_index(from: u8, to: u8, size: usize) -> usize
     requires { (1 ≤ size) × (size ≤ 64) }
-    ensures { (result ≡ cell_of size from to) × (result < size * size) }
+    ensures { (result ≡ cell_of size from to) × (result < size * size) × (result < 4096) }
 {
     index(from, size) * size + index(to, size)
 }
 
-// The f32 nearest to a count. Up to 2^24 an f32 holds the count itself, and the processor's own conversion loses nothing.
+// The f32 nearest to a count. Up to `EXACT` the processor's own conversion loses nothing, and is faster.
 fn f32_of_count(n: u64) -> f32
     ensures { result ≡ of_int binary32 (pos n) }
 {
-    if n <= 0x100_0000 {
+    if n <= EXACT {
         (n as i64) as f32
     } else {
         nearest_u64(n)
@@ -187,13 +137,6 @@ fn ratio_of(count: u64, total: u64) -> f32
     f32_of_count(count) / f32_of_count(total)
 }
 
-// One of two words.
-fn pick(first: bool, a: u64, b: u64) -> u64
-    ensures { result ≡ cond first a b }
-{
-    if first { a } else { b }
-}
-
 // The bit of a byte in its word.
 fn bit(value: u8) -> u64
     ensures { result ≡ 2 ^ (value % 64) }
@@ -202,25 +145,21 @@ fn bit(value: u8) -> u64
 }
 
 impl Seen {
-    // No byte was seen.
-    fn none() -> Seen
-        ensures { result ≡ none_seen }
-    {
-        Seen {
-            from_0: 0,
-            from_64: 0,
-            from_128: 0,
-            from_192: 0,
-        }
-    }
-
-    // The word that a byte's bit is in, by three choices between two words.
+    // The word that a byte's bit is in, by three choices between two words: a `match` branches, and is twice as slow where bytes come in any order.
     fn word(self, value: u8) -> u64
         ensures { result ≡ word_of self value }
     {
-        let even = pick(value < 128, self.from_0, self.from_128);
-        let odd = pick(value < 128, self.from_64, self.from_192);
-        pick(value % 128 < 64, even, odd)
+        let even = if value < 128 {
+            self.from_0
+        } else {
+            self.from_128
+        };
+        let odd = if value < 128 {
+            self.from_64
+        } else {
+            self.from_192
+        };
+        if value % 128 < 64 { even } else { odd }
     }
 
     // Whether a byte was seen.
@@ -238,53 +177,47 @@ impl Seen {
             return self;
         }
         let word = self.word(value) + bit(value);
-        let mut next = self;
-        if value < 64 {
-            next.from_0 = word;
-            return next;
+        match value {
+            0..=63 => Seen {
+                from_0: word,
+                ..self
+            },
+            64..=127 => Seen {
+                from_64: word,
+                ..self
+            },
+            128..=191 => Seen {
+                from_128: word,
+                ..self
+            },
+            _ => Seen {
+                from_192: word,
+                ..self
+            },
         }
-        if value < 128 {
-            next.from_64 = word;
-            return next;
-        }
-        if value < 192 {
-            next.from_128 = word;
-            return next;
-        }
-        next.from_192 = word;
-        next
     }
 }
 
-// The answer of `is_anomalous` where nothing is refused. It stands apart so that the compiler makes no branch of it.
-fn judgement_of(flagged: bool) -> Judgement
-    ensures { judgement_means result ≡ judged flagged }
-{
-    if flagged {
-        Judgement::Anomalous
-    } else {
-        Judgement::Usual
+impl<M> Changed<M> {
+    // The call was done, and left this model.
+    fn done(model: M) -> Changed<M>
+        ensures { result ≡ done model }
+    {
+        Changed {
+            answer: Ok(()),
+            model,
+        }
     }
-}
 
-// Whether there are 1 to 256 bins, and as many counts.
-fn bins_fit(size: usize, counts: usize) -> bool
-    ensures { result ≡ bins_fit size counts }
-{
-    is_sized(size, 256) && counts == size
-}
-
-// Whether there are 1 to 64 states, as many transitions as their square, and as many row totals as states.
-fn states_fit(size: usize, transition: usize, row_totals: usize) -> bool
-    ensures { result ≡ states_fit size transition row_totals }
-{
-    if !is_sized(size, 64) {
-        return false;
+    // The call was refused, and left the model that came in.
+    fn refused(model: M) -> Changed<M>
+        ensures { result ≡ refused model }
+    {
+        Changed {
+            answer: Err(Misfit),
+            model,
+        }
     }
-    if transition != size * size {
-        return false;
-    }
-    row_totals == size
 }
 
 impl HistogramDetector {
@@ -292,63 +225,55 @@ impl HistogramDetector {
     fn fresh(size: usize) -> HistogramDetector
         ensures { result ≡ fresh size }
     {
-        let seen = Seen::none();
         HistogramDetector {
             size,
             total: 0,
-            seen,
+            seen: Seen::default(),
             saturated: false,
         }
     }
 
-    // A model of so many bins with nothing observed, and its counts cleared, or refusal 18.
-    pub fn new(size: usize, counts: &mut [u64]) -> Histogram
-        ensures { histogram_means result counts.new ≡ new_bins size counts.old }
+    // Whether there are 1 to 256 bins, and as many counts.
+    fn fits(self, counts: &[u64]) -> Result<(), Misfit>
+        ensures told { is_ok result ≡ bins_fit self.size (length counts.now) }
+        ensures inside { IfOk result (λ _. (1 ≤ self.size) × (self.size ≤ 256) × (length counts.now ≡ self.size)) }
     {
-        let model = HistogramDetector::fresh(size);
-        if !bins_fit(size, counts.len()) {
-            return Histogram {
-                answer: Answer::Refused,
-                model,
-            };
-        }
-        clear(counts);
-        Histogram {
-            answer: Answer::Done,
-            model,
+        if is_sized(self.size, 256) && counts.len() == self.size {
+            Ok(())
+        } else {
+            Err(Misfit)
         }
     }
 
+    // A model of so many bins with nothing observed, and its counts cleared, or refusal 18.
+    pub fn new(size: usize, counts: &mut [u64]) -> Changed<HistogramDetector>
+        ensures { histogram_means result counts.new ≡ new_bins size counts.old }
+    {
+        HistogramDetector::fresh(size).reset(counts)
+    }
+
     // One observation of a byte, or refusal 18.
-    pub fn observe(self, counts: &mut [u64], value: u8) -> Histogram
+    pub fn observe(self, counts: &mut [u64], value: u8) -> Changed<HistogramDetector>
         ensures { histogram_means result counts.new ≡ observed self counts.old value }
     {
-        if !bins_fit(self.size, counts.len()) {
-            return Histogram {
-                answer: Answer::Refused,
-                model: self,
-            };
-        }
-        let was = self.seen;
-        let seen = was.mark(value);
+        let Ok(()) = self.fits(counts) else {
+            return Changed::refused(self);
+        };
+        let seen = self.seen.mark(value);
         let i = index(value, self.size);
         let next = count_one(counts[i], self.total, self.saturated);
         counts[i] = next.count;
-        let model = HistogramDetector {
+        Changed::done(HistogramDetector {
             size: self.size,
             total: next.total,
             seen,
             saturated: next.saturated,
-        };
-        Histogram {
-            answer: Answer::Done,
-            model,
-        }
+        })
     }
 
     // The part of all observations that a byte's bin has.
     fn bin_ratio(self, counts: &[u64], value: u8) -> f32
-        requires { bins_fit self.size (length counts.now) ≡ true }
+        requires { (1 ≤ self.size) × (self.size ≤ 256) × (length counts.now ≡ self.size) }
         ensures { result ≡ bin_ratio self counts.now value }
     {
         let i = index(value, self.size);
@@ -356,23 +281,20 @@ impl HistogramDetector {
     }
 
     // The same, or refusal 18.
-    pub fn probability(self, counts: &[u64], value: u8) -> Probability
+    pub fn probability(self, counts: &[u64], value: u8) -> Result<f32, Misfit>
         ensures { probability_means result ≡ probability_of self counts.now value }
     {
-        if !bins_fit(self.size, counts.len()) {
-            return Probability::Refused;
-        }
-        Probability::Ratio(self.bin_ratio(counts, value))
+        self.fits(counts)?;
+        Ok(self.bin_ratio(counts, value))
     }
 
     // Whether a byte is anomalous: not where the model is saturated or empty, and else where it was never seen or its bin is below the threshold.
     // The map and the bin are looked up first, so that the compiler need not look again in a host's `observe` of the same byte.
     fn flags(self, counts: &[u64], value: u8, threshold: f32) -> bool
-        requires { bins_fit self.size (length counts.now) ≡ true }
+        requires { (1 ≤ self.size) × (self.size ≤ 256) × (length counts.now ≡ self.size) }
         ensures { result ≡ anomalous self counts.now value threshold }
     {
-        let seen = self.seen;
-        let known = seen.has(value);
+        let known = self.seen.has(value);
         let i = index(value, self.size);
         let count = counts[i];
         if self.saturated {
@@ -388,31 +310,22 @@ impl HistogramDetector {
     }
 
     // The same, or refusal 18.
-    pub fn is_anomalous(self, counts: &[u64], value: u8, threshold: f32) -> Judgement
+    pub fn is_anomalous(self, counts: &[u64], value: u8, threshold: f32) -> Result<bool, Misfit>
         ensures { judgement_means result ≡ judged_of self counts.now value threshold }
     {
-        if !bins_fit(self.size, counts.len()) {
-            return Judgement::Refused;
-        }
-        judgement_of(self.flags(counts, value, threshold))
+        self.fits(counts)?;
+        Ok(self.flags(counts, value, threshold))
     }
 
     // The model with nothing observed, and its counts cleared, or refusal 18.
-    pub fn reset(self, counts: &mut [u64]) -> Histogram
+    pub fn reset(self, counts: &mut [u64]) -> Changed<HistogramDetector>
         ensures { histogram_means result counts.new ≡ reset_bins self counts.old }
     {
-        if !bins_fit(self.size, counts.len()) {
-            return Histogram {
-                answer: Answer::Refused,
-                model: self,
-            };
-        }
-        clear(counts);
-        let model = HistogramDetector::fresh(self.size);
-        Histogram {
-            answer: Answer::Done,
-            model,
-        }
+        let Ok(()) = self.fits(counts) else {
+            return Changed::refused(self);
+        };
+        counts.fill(0);
+        Changed::done(HistogramDetector::fresh(self.size))
     }
 
     // Whether an observation left a count or the total full since the model was made or reset.
@@ -423,6 +336,7 @@ impl HistogramDetector {
     }
 }
 
+// No trait with the histogram: a call is lent two slices here and one there. The two stay apart: a struct of both needs a form to read and one to write.
 impl MarkovDetector {
     // A model with nothing observed.
     fn fresh(size: usize) -> MarkovDetector
@@ -434,23 +348,31 @@ impl MarkovDetector {
         }
     }
 
+    // Whether there are 1 to 64 states, as many transitions as their square, and as many row totals as states.
+    #[tactic(auto, using(crate::proofs::Places::square_small))]
+    fn fits(self, transition: &[u64], row_totals: &[u64]) -> Result<(), Misfit>
+        ensures told { is_ok result ≡ states_fit self.size (length transition.now) (length row_totals.now) }
+        ensures inside { IfOk result (λ _. (1 ≤ self.size) × (self.size ≤ 64) × (length transition.now ≡ self.size * self.size) × (length row_totals.now ≡ self.size)) }
+    {
+        if is_sized(self.size, 64)
+            && transition.len() == self.size * self.size
+            && row_totals.len() == self.size
+        {
+            Ok(())
+        } else {
+            Err(Misfit)
+        }
+    }
+
     // A model of so many states with nothing observed, and its counts cleared, or refusal 18.
-    pub fn new(size: usize, transition: &mut [u64], row_totals: &mut [u64]) -> Markov
+    pub fn new(
+        size: usize,
+        transition: &mut [u64],
+        row_totals: &mut [u64],
+    ) -> Changed<MarkovDetector>
         ensures { markov_means result transition.new row_totals.new ≡ new_states size transition.old row_totals.old }
     {
-        let model = MarkovDetector::fresh(size);
-        if !states_fit(size, transition.len(), row_totals.len()) {
-            return Markov {
-                answer: Answer::Refused,
-                model,
-            };
-        }
-        clear(transition);
-        clear(row_totals);
-        Markov {
-            answer: Answer::Done,
-            model,
-        }
+        MarkovDetector::fresh(size).reset(transition, row_totals)
     }
 
     // One observation of the state `from` followed by `to`, or refusal 18.
@@ -460,28 +382,21 @@ impl MarkovDetector {
         row_totals: &mut [u64],
         from: u8,
         to: u8,
-    ) -> Markov
+    ) -> Changed<MarkovDetector>
         ensures { markov_means result transition.new row_totals.new ≡ moved self transition.old row_totals.old from to }
     {
-        if !states_fit(self.size, transition.len(), row_totals.len()) {
-            return Markov {
-                answer: Answer::Refused,
-                model: self,
-            };
-        }
+        let Ok(()) = self.fits(transition, row_totals) else {
+            return Changed::refused(self);
+        };
         let row = index(from, self.size);
         let cell = cell_index(from, to, self.size);
         let next = count_one(transition[cell], row_totals[row], self.saturated);
         transition[cell] = next.count;
         row_totals[row] = next.total;
-        let model = MarkovDetector {
+        Changed::done(MarkovDetector {
             size: self.size,
             saturated: next.saturated,
-        };
-        Markov {
-            answer: Answer::Done,
-            model,
-        }
+        })
     }
 
     // The part of its row that a transition has, or refusal 18. A saturated model answers as well.
@@ -491,34 +406,25 @@ impl MarkovDetector {
         row_totals: &[u64],
         from: u8,
         to: u8,
-    ) -> Probability
+    ) -> Result<f32, Misfit>
         ensures { probability_means result ≡ score_of self transition.now row_totals.now from to }
     {
-        if !states_fit(self.size, transition.len(), row_totals.len()) {
-            return Probability::Refused;
-        }
+        self.fits(transition, row_totals)?;
         let row = index(from, self.size);
         let cell = cell_index(from, to, self.size);
-        Probability::Ratio(ratio_of(transition[cell], row_totals[row]))
+        Ok(ratio_of(transition[cell], row_totals[row]))
     }
 
     // The model with nothing observed, and its counts cleared, or refusal 18.
-    pub fn reset(self, transition: &mut [u64], row_totals: &mut [u64]) -> Markov
+    pub fn reset(self, transition: &mut [u64], row_totals: &mut [u64]) -> Changed<MarkovDetector>
         ensures { markov_means result transition.new row_totals.new ≡ reset_states self transition.old row_totals.old }
     {
-        if !states_fit(self.size, transition.len(), row_totals.len()) {
-            return Markov {
-                answer: Answer::Refused,
-                model: self,
-            };
-        }
-        clear(transition);
-        clear(row_totals);
-        let model = MarkovDetector::fresh(self.size);
-        Markov {
-            answer: Answer::Done,
-            model,
-        }
+        let Ok(()) = self.fits(transition, row_totals) else {
+            return Changed::refused(self);
+        };
+        transition.fill(0);
+        row_totals.fill(0);
+        Changed::done(MarkovDetector::fresh(self.size))
     }
 
     // Whether an observation left a count full since the model was made or reset.

@@ -1,139 +1,156 @@
 // Reading a line of a script: hexadecimal numbers and bytes, parted by one blank.
-ghost use Rattle.std.specs.Prelude.{◌≤◌, ◌<◌, length};
+ghost use Rattle.std.specs.Prelude.{◌<◌, IfSome};
 ghost use Rattle.io.specs.Counts.{IsPrefixLen};
 
 use bits::ByteOrder;
 use conversion::{Condition, SignalDefinition, f32_of_bits};
 
-// A number, and where the next field starts.
-#[derive(Clone, Copy)]
-pub struct Field {
-    pub value: u64,
-    pub next: usize,
+// What a field of a line can be read as: the low bits of its number, or what these stand for.
+pub trait Field {
+    fn of(n: u64) -> Self;
 }
 
-// A definition, and where the next field starts.
-#[derive(Clone, Copy)]
-pub struct Defining {
-    pub definition: SignalDefinition,
-    pub next: usize,
-}
-
-// The value of a hexadecimal digit, and 16 for what is none.
-fn digit(b: u8) -> u8
-    ensures { result ≤ 16 }
-{
-    match b {
-        b'0'..=b'9' => b - b'0',
-        b'A'..=b'F' => b - b'A' + 10,
-        b'a'..=b'f' => b - b'a' + 10,
-        _ => 16,
+impl Field for u64 {
+    fn of(n: u64) -> u64 {
+        n
     }
 }
 
-// The number that starts at a place. A field that is missing is 0.
-pub fn number(s: &[u8], at: usize) -> Field {
-    let mut value: u64 = 0;
-    let mut i = at;
-    while i < s.len() {
-        let d = digit(s[i]);
-        if 16 <= d {
-            return Field { value, next: i + 1 };
+impl Field for usize {
+    fn of(n: u64) -> usize {
+        n as usize
+    }
+}
+
+impl Field for u32 {
+    fn of(n: u64) -> u32 {
+        (n % 0x1_0000_0000) as u32
+    }
+}
+
+impl Field for u16 {
+    fn of(n: u64) -> u16 {
+        (n % 0x1_0000) as u16
+    }
+}
+
+impl Field for u8 {
+    fn of(n: u64) -> u8 {
+        (n % 0x100) as u8
+    }
+}
+
+impl Field for bool {
+    fn of(n: u64) -> bool {
+        n != 0
+    }
+}
+
+impl Field for f32 {
+    fn of(n: u64) -> f32 {
+        f32_of_bits(u32::of(n))
+    }
+}
+
+// The 64 bits as two's complement.
+impl Field for i64 {
+    fn of(n: u64) -> i64 {
+        n.cast_signed()
+    }
+}
+
+impl Field for ByteOrder {
+    fn of(n: u64) -> ByteOrder {
+        if n == 0 {
+            ByteOrder::LittleEndian
+        } else {
+            ByteOrder::BigEndian
         }
-        value = value % 0x1000_0000_0000_0000 * 16 + d as u64;
-        i += 1;
     }
-    Field { value, next: i }
 }
 
-// The bytes that start at a place, into the front of `out`, and how many there are.
-pub fn bytes(s: &[u8], at: usize, out: &mut [u8]) -> usize
-    ensures { IsPrefixLen result out.new }
-{
-    let mut n = 0;
-    let mut i = at;
-    while n < out.len() {
-        let high = digit_at(s, i);
-        if 16 <= high {
-            return n;
+impl Field for Condition {
+    fn of(n: u64) -> Condition {
+        if n == 0 {
+            Condition::Always
+        } else {
+            Condition::Only(u16::of(n))
         }
-        let low = digit_at(s, i + 1);
-        if 16 <= low {
-            return n;
-        }
-        out[n] = high * 16 + low;
-        n += 1;
-        i += 2;
     }
-    n
 }
 
-// The digit at a place, and 16 past the end.
-fn digit_at(s: &[u8], at: usize) -> u8
-    ensures { (result ≤ 16) × (result < 16 → at < length s.now) }
+// The value of a hexadecimal digit.
+fn digit(b: u8) -> Option<u8>
+    ensures { IfSome result (λ d. d < 16) }
 {
-    if at < s.len() { digit(s[at]) } else { 16 }
+    let d = char::from(b).to_digit(16)?;
+    Some(d as u8)
 }
 
-// The low bits of a number.
-pub fn low8(n: u64) -> u8 {
-    (n % 0x100) as u8
+// The fields of a line that are not read yet.
+#[derive(Drop)]
+pub struct Fields<'a> {
+    rest: &'a [u8],
 }
 
-pub fn low16(n: u64) -> u16 {
-    (n % 0x1_0000) as u16
-}
-
-pub fn low32(n: u64) -> u32 {
-    (n % 0x1_0000_0000) as u32
-}
-
-pub fn float(n: u64) -> f32 {
-    f32_of_bits(low32(n))
-}
-
-pub fn order(n: u64) -> ByteOrder {
-    if n == 0 {
-        return ByteOrder::LittleEndian;
+impl<'a> Fields<'a> {
+    // Those behind the letter and its blank.
+    pub fn of_line(line: &'a [u8]) -> Fields<'a> {
+        Fields {
+            rest: &line[line.len().min(2)..],
+        }
     }
-    ByteOrder::BigEndian
-}
 
-fn condition(n: u64) -> Condition {
-    if n == 0 {
-        return Condition::Always;
+    // The next number. A field that is missing is 0.
+    fn number(&mut self) -> u64 {
+        let rest = self.rest;
+        let mut value: u64 = 0;
+        for (i, b) in rest.iter().enumerate() {
+            let Some(d) = digit(*b) else {
+                self.rest = &rest[i + 1..];
+                return value;
+            };
+            value = value % 0x1000_0000_0000_0000 * 16 + u64::from(d);
+        }
+        self.rest = &rest[rest.len()..];
+        value
     }
-    Condition::Only(low16(n))
-}
 
-// The definition that starts at a place.
-pub fn definition(s: &[u8], at: usize) -> Defining {
-    let can_id = number(s, at);
-    let extended = number(s, can_id.next);
-    let start = number(s, extended.next);
-    let length = number(s, start.next);
-    let byte_order = number(s, length.next);
-    let scale = number(s, byte_order.next);
-    let offset = number(s, scale.next);
-    let name_hash = number(s, offset.next);
-    let signed = number(s, name_hash.next);
-    let multiplexor = number(s, signed.next);
-    let only = number(s, multiplexor.next);
-    let definition = SignalDefinition {
-        can_id: low32(can_id.value),
-        is_extended: extended.value != 0,
-        start_bit: low16(start.value),
-        bit_length: low8(length.value),
-        byte_order: order(byte_order.value),
-        scale: float(scale.value),
-        offset: float(offset.value),
-        name_hash: low32(name_hash.value),
-        signed: signed.value != 0,
-        is_multiplexor: multiplexor.value != 0,
-        condition: condition(only.value),
-    };
-    Defining {
-        definition,
-        next: only.next,
+    // The next number, as what it stands for.
+    pub fn read<T: Field>(&mut self) -> T {
+        T::of(self.number())
+    }
+
+    // The bytes that stand next, into the front of `out`, and how many there are.
+    pub fn bytes(&mut self, out: &mut [u8]) -> usize
+        ensures { IsPrefixLen result out.new }
+    {
+        let rest = self.rest;
+        let mut n = 0;
+        while n < out.len() && 2 * n + 1 < rest.len() {
+            let (Some(high), Some(low)) = (digit(rest[2 * n]), digit(rest[2 * n + 1])) else {
+                return n;
+            };
+            out[n] = high * 16 + low;
+            n += 1;
+        }
+        n
+    }
+
+    // The definition that stands next.
+    pub fn definition(&mut self) -> SignalDefinition {
+        SignalDefinition {
+            can_id: self.read(),
+            is_extended: self.read(),
+            start_bit: self.read(),
+            bit_length: self.read(),
+            byte_order: self.read(),
+            scale: self.read(),
+            offset: self.read(),
+            name_hash: self.read(),
+            signed: self.read(),
+            is_multiplexor: self.read(),
+            condition: self.read(),
+        }
     }
 }

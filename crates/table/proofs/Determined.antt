@@ -8,6 +8,7 @@ use Rattle.table.proofs.SignalIdsEngine.remove_signal.Reads as remove-signal
 use Rattle.table.proofs.SignalIdsEngine.signal_count.Reads as signal-count
 use Rattle.table.proofs.SignalIdsEngine.next_slot.Reads as next-slot
 use Rattle.table.proofs.clamp.Reads as clamp
+use Rattle.table.proofs.U8FromTableError.from.Reads as number
 
 pub new_determined : Determines new.Learnt
 new_determined κs a r q s t p p' = p ∙ sym p'
@@ -29,3 +30,6 @@ next_slot_determined κs a r q s t p p' = p ∙ sym p'
 
 pub clamp_determined : Determines clamp.Learnt
 clamp_determined κs a r q s t p p' = p ∙ sym p'
+
+pub number_determined : Determines number.Learnt
+number_determined κs a r q s t p p' = p ∙ sym p'

@@ -7,15 +7,15 @@ use Prim.Native.Nat.{ℕ, ◌+◌, ◌≤◌, ◌<◌}
 use native.Mathlib.Decide.{dec_le}
 use native.Mathlib.Omega.{arith}
 use lib.ListN.{length, take}
-use borrow.Author.Tests.{eq-eqb}
 use contract.Lifetimes.{Lfts}
 use Rattle.conversion.specs.declared.SignalDefinition.{SignalDefinition}
-use Rattle.table.specs.declared.Answer.TheVariants.{Slot, Done, Refused}
+use Rattle.std.specs.Prelude.{Ok, Err}
+use Rattle.table.specs.declared.TableError.TheVariants.{ResourceExhausted}
 use Rattle.table.specs.declared.Defined.{Defined}
 use Rattle.table.specs.declared.Entry.{Entry}
 use Rattle.table.specs.declared.SignalIdsEngine.{SignalIdsEngine}
 use Rattle.table.specs.Rows.{keep, insert_behind}
-use Rattle.table.specs.Table.{Table, Told, accepted, refused, table_of, live, defined, fault, entry_of, below, has, define', faults, slots_ok, appended, appended_all}
+use Rattle.table.specs.Table.{Table, Told, error_number, accepted, refused, table_of, live, defined, fault, entry_of, below, has, define', faults, slots_ok, appended, appended_all}
 use Rattle.table.specs.Regular.{Regular}
 use Rattle.table.proofs.Lists.{every_weaken}
 use Rattle.table.proofs.Columns.{table_engine}
@@ -27,29 +27,28 @@ use Rattle.table.proofs.SignalIdsEngine.define_signal.Reads as define-signal
 use Rattle.table.proofs.SignalIdsEngine.define_signals_batch.Reads as define-signals-batch
 
 -- ---- "Define gives at most 65,534": next slot is a u16, and at 65,535 define is refused
-answer_at_most : (e : SignalIdsEngine) (d : SignalDefinition) (k : ℕ) → e.next_slot ≤ 65535 → (defined e (define' (table_of e) d)).answer ≡ Slot k → k ≤ 65534
+answer_at_most : (e : SignalIdsEngine) (d : SignalDefinition) (k : ℕ) → e.next_slot ≤ 65535 → (defined e (define' (table_of e) d)).answer ≡ Ok k → k ≤ 65534
 answer_at_most e d k fits = go (define' (table_of e) d) refl
   where
-    go : (x : Told) → define' (table_of e) d ≡ x → (defined e x).answer ≡ Slot k → k ≤ 65534
-    go (refused j) h a = let z : ◌≡◌ {A = ℕ} 0 1 = cc in absurd (omega arith)
+    go : (x : Told ℕ) → define' (table_of e) d ≡ x → (defined e x).answer ≡ Ok k → k ≤ 65534
+    go (refused j) h a = cc
     go (accepted b u) h a =
         let f : DefineAccepted (table_of e) d b u = define_accepted (table_of e) d b u h in
-        let s : Slot e.next_slot ≡ Slot k = sym f.answer ∙ a in
-        let i : e.next_slot ≡ k = cc in
-        omega (arith, f.unspent)
+        let i : b ≡ k = cc in
+        omega (arith, f.unspent, f.answer)
 
-pub define_at_most : (κs : Lfts 0) (e : SignalIdsEngine) (d : SignalDefinition) (r : Defined) (x : _) → define-signal.Learnt κs (e, (d, tt)) r x
+pub define_at_most : (κs : Lfts 0) (e : SignalIdsEngine) (d : SignalDefinition) (r : Defined ℕ) (x : _) → define-signal.Learnt κs (e, (d, tt)) r x
     → e.next_slot ≤ 65535
     → (k : ℕ)
-    → r.answer ≡ Slot k
+    → r.answer ≡ Ok k
     → k ≤ 65534
-define_at_most κs e d r x h fits k a = answer_at_most e d k fits (ap (λ (q : Defined). q.answer) (sym h) ∙ a)
+define_at_most κs e d r x h fits k a = answer_at_most e d k fits (ap (λ (q : Defined ℕ). q.answer) (sym h) ∙ a)
 
 -- at next slot 65,535 every define is refused: with its own fault, or with 4
-pub define_exhausted : (t : Table) (d : SignalDefinition) → fault d ≡ 0 → t.next ≡ 65535 → define' t d ≡ refused 4
-define_exhausted t d ok end = go (dec_le 64 (length t.rows))
+pub define_exhausted : (t : Table) (d : SignalDefinition) → fault d ≡ Ok tt → t.next ≡ 65535 → (define' t d ≡ refused ResourceExhausted) × (error_number ResourceExhausted ≡ 4)
+define_exhausted t d ok end = (go (dec_le 64 (length t.rows)), refl)
   where
-    go : Dec (64 ≤ length t.rows) → define' t d ≡ refused 4
+    go : Dec (64 ≤ length t.rows) → define' t d ≡ refused ResourceExhausted
     go (yes h) = define_full t d ok h
     go (no h) = define_spent t d ok (omega arith) end
 
@@ -102,37 +101,37 @@ ending t a b g end =
     }
 
 -- what the batch of two returns, and any define after it: the rows with these slots are the batch's, and there is one of each
-pub record LastSlots (e : SignalIdsEngine) (a b : SignalDefinition) (r : Defined) : Type 0 where
-  pub answer : r.answer ≡ Done
+pub record LastSlots (e : SignalIdsEngine) (a b : SignalDefinition) (r : Defined (Unit {0})) : Type 0 where
+  pub answer : r.answer ≡ Ok tt
   pub at_65534 : keep (has 65534) (live r.engine) ≡ entry_of e.fresh 65534 a ∷ []
   pub at_65535 : keep (has 65535) (live r.engine) ≡ entry_of e.fresh 65535 b ∷ []
   pub next : r.engine.next_slot ≡ 65535
-  pub then_refused : (κs : Lfts 0) (d : SignalDefinition) (q : Defined) (x : _) → define-signal.Learnt κs (r.engine, (d, tt)) q x → fault d ≡ 0
-      → q ≡ record { answer = Refused 4; engine = r.engine }
+  pub then_refused : (κs : Lfts 0) (d : SignalDefinition) (q : Defined ℕ) (x : _) → define-signal.Learnt κs (r.engine, (d, tt)) q x → fault d ≡ Ok tt
+      → (q ≡ record { answer = Err ResourceExhausted; engine = r.engine }) × (error_number ResourceExhausted ≡ 4)
 
-pub last_slots : (κs : Lfts 0) (e : SignalIdsEngine) (ds : List SignalDefinition) (r : Defined) (x : _) → define-signals-batch.Learnt κs (e, (ds, (2, tt))) r x
+pub last_slots : (κs : Lfts 0) (e : SignalIdsEngine) (ds : List SignalDefinition) (r : Defined (Unit {0})) (x : _) → define-signals-batch.Learnt κs (e, (ds, (2, tt))) r x
     → Regular (table_of e)
     → e.next_slot ≡ 65534
     → length (live e) ≤ 62
     → (a b : SignalDefinition)
     → take 2 ds ≡ a ∷ b ∷ []
-    → fault a ≡ 0
-    → fault b ≡ 0
+    → fault a ≡ Ok tt
+    → fault b ≡ Ok tt
     → LastSlots e a b r
 unfolding slots_ok
 last_slots κs e ds r x h g end room a b two p q =
     let t = table_of e in
     let u = appended_all t (a ∷ b ∷ []) in
-    let clean : faults (take 2 ds) ≡ 0 = ap faults two ∙ (rw (eq-eqb (fault a) 0 p, eq-eqb (fault b) 0 q)) in
-    let done : r ≡ defined e (accepted Done u) =
-    h ∙ ap (defined e) (batch_new t ds 2 (omega arith) clean (ap (slots_ok 2) end) ∙ ap (λ (l : List SignalDefinition). accepted Done (appended_all t l)) two) in
-    let holds : table_of r.engine ≡ u = ap (λ (z : Defined). table_of z.engine) done ∙ table_engine u in
+    let clean : faults (take 2 ds) ≡ Ok tt = ap faults two ∙ (rw (p, q)) in
+    let done : r ≡ defined e (accepted tt u) =
+    h ∙ ap (defined e) (batch_new t ds 2 (omega arith) clean (ap (slots_ok 2) end) ∙ ap (λ (l : List SignalDefinition). accepted tt (appended_all t l)) two) in
+    let holds : table_of r.engine ≡ u = ap (λ (z : Defined (Unit {0})). table_of z.engine) done ∙ table_engine u in
     let k = ending t a b g end in
     let next : r.engine.next_slot ≡ 65535 = ap (λ (z : Table). z.next) holds ∙ k.next in
     record {
-      answer = ap (λ (z : Defined). z.answer) done;
+      answer = ap (λ (z : Defined (Unit {0})). z.answer) done;
       at_65534 = ap (λ (z : Table). keep (has 65534) z.rows) holds ∙ k.at_65534;
       at_65535 = ap (λ (z : Table). keep (has 65535) z.rows) holds ∙ k.at_65535;
       next = next;
-      then_refused = λ κs' d w y j ok. j ∙ ap (defined r.engine) (define_exhausted (table_of r.engine) d ok next);
+      then_refused = λ κs' d w y j ok. (j ∙ ap (defined r.engine) (define_exhausted (table_of r.engine) d ok next).0, refl);
     }

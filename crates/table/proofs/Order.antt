@@ -11,11 +11,10 @@ use lib.Dec.{eqb, ltb}
 use lib.ListN.{length, length-take, take}
 use borrow.Author.Tests.{eq-eqb, ne_eqb, eqb-true, ltb-true, ltb-false}
 use Rattle.conversion.specs.declared.SignalDefinition.{SignalDefinition}
-use Rattle.table.specs.declared.Answer.{Answer}
 use Rattle.table.specs.declared.Entry.{Entry}
 use Rattle.table.specs.Rows.{insert_behind, every}
 use Rattle.table.specs.Table.{Table, accepted, entry_of, below, appended, appended_all}
-use Rattle.table.specs.Calls.{TableCall, defines, batches, removes, told, new_rows, rows_before, rows_behind, rows_left}
+use Rattle.table.specs.Calls.{TableCall, Answer, defines, batches, removes, told, new_rows, rows_before, rows_behind, rows_left}
 use Rattle.table.specs.Regular.{Sorted, Regular, of_id, Order}
 use Rattle.table.proofs.Laws.{keep_append}
 use Rattle.table.proofs.Lists.{every_weaken, sorted_insert}
@@ -86,7 +85,7 @@ batch_behind k (d ∷ c ∷ l) t s h =
     ∙ ap (λ (m : List Entry). of_id k t.rows ++ m) (sym (of_cons k x rest))
 
 -- the order rule, for every call that is accepted
-pub order : (t : Table) (c : TableCall) (a : Answer) (u : Table) → Regular t → told t c ≡ accepted a u → Order (rows_before t c) (rows_behind t c) (rows_left t c) u.rows
+pub order : (t : Table) (c : TableCall) (a : Answer c) (u : Table) → Regular t → told t c ≡ accepted a u → Order (rows_before t c) (rows_behind t c) (rows_left t c) u.rows
 order t (defines d) a u g e k =
     let f : DefineAccepted t d a u = define_accepted t d a u e in
     let x : Entry = entry_of t.fresh t.next d in
@@ -94,14 +93,14 @@ order t (defines d) a u g e k =
     ∙ insert_before k x t.rows
     ∙ ap (λ (m : List Entry). of_id k (x ∷ []) ++ m) (sym (append-nil (of_id k t.rows)))
 order t (batches ds n) a u g e k =
-    let f : BatchAccepted t ds n a u = batch_accepted t ds n a u e in
+    let f : BatchAccepted t ds n u = batch_accepted t ds n a u e in
     ap (λ (v : Table). of_id k v.rows) f.table
     ∙ ⊎_elim (λ (z : n ≡ 0). none z) (λ (h : (t.next < 65535) × (t.next + n ≤ 65536)). batch_behind k (take n ds) t g.sorted (omega (arith, h.1, length-take n ds))) (slots_enough n t.next g.bound f.slots)
   where
     none : n ≡ 0 → of_id k (appended_all t (take n ds)).rows ≡ of_id k t.rows ++ of_id k (new_rows t (take n ds))
     none z = subst (λ (j : ℕ). of_id k (appended_all t (take j ds)).rows ≡ of_id k t.rows ++ of_id k (new_rows t (take j ds))) (sym z) (sym (append-nil (of_id k t.rows)))
 order t (removes s) a u g e k =
-    let f : RemoveAccepted t s a u = remove_accepted t s a u e in
+    let f : RemoveAccepted t s u = remove_accepted t s a u e in
     ap (λ (v : Table). of_id k v.rows) f.table ∙ sym (append-nil (of_id k (rows_left t (removes s))))
 
 -- ---- sorted rows are told by the rows of each identifier, so that the rule leaves one table

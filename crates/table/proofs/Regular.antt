@@ -9,13 +9,13 @@ use native.Mathlib.Omega.{arith}
 use lib.ListN.{length, length-map, length-take, take}
 use Rattle.conversion.specs.declared.SignalDefinition.{SignalDefinition}
 use Rattle.detector.specs.declared.EwmaDetector.{EwmaDetector}
-use Rattle.table.specs.declared.Answer.{Answer}
+use Rattle.std.specs.Prelude.{Ok}
 use Rattle.table.specs.declared.Signal.{Signal}
 use Rattle.table.specs.declared.Entry.{Entry}
 use Rattle.table.specs.declared.SignalIdsEngine.{SignalIdsEngine}
 use Rattle.table.specs.Rows.{every}
 use Rattle.table.specs.Table.{Table, Told, accepted, refused, table_of, empty_table, with_rows, defined, fault, entry_of, below, placed_behind, has, appended, appended_all}
-use Rattle.table.specs.Calls.{TableCall, defines, batches, removes, told, left, after, Event, calls, moves, with_detector, happened, ran}
+use Rattle.table.specs.Calls.{TableCall, Answer, defines, batches, removes, told, left, after, Event, calls, moves, with_detector, happened, ran}
 use Rattle.table.specs.Regular.{Used, Proper, Regular}
 use Rattle.table.proofs.Laws.{length_insert, length-drop-first}
 use Rattle.table.proofs.Lists.{every_weaken, every_insert, every_drop, every_move, pairs_insert, pairs_drop, pairs_move, sorted_insert}
@@ -49,7 +49,7 @@ module _ (limit : ℕ) (t : Table) (d : SignalDefinition) (low : d.can_id ≤ li
   new : Entry
   new = entry_of t.fresh t.next d
 
-  pub placed_keeps : fault d ≡ 0 → length t.rows < 64 → Unused t → Regular t → Regular (placed_behind limit t d)
+  pub placed_keeps : fault d ≡ Ok tt → length t.rows < 64 → Unused t → Regular t → Regular (placed_behind limit t d)
   unfolding new
   placed_keeps ok room free g =
       record {
@@ -79,7 +79,7 @@ module _ (limit : ℕ) (t : Table) (d : SignalDefinition) (low : d.can_id ≤ li
       (every_weaken (λ r. r.signal.slot < t.next) (λ r. r.signal.slot < min (t.next + 1) 65535) (λ r k. omega arith) t.rows free)
 
 all_keep : (l : List SignalDefinition) (t : Table)
-    → every (λ d. fault d ≡ 0) l
+    → every (λ d. fault d ≡ Ok tt) l
     → length t.rows + length l ≤ 64
     → t.next + length l ≤ 65536
     → Unused t
@@ -94,19 +94,19 @@ all_keep (d ∷ c ∷ l) t ok room slots free g =
     (placed_keeps q t d (omega arith) (omega arith) ok.0 (omega arith) free g)
 
 -- an accepted call leaves a regular table
-pub accepted_keeps : (t : Table) (c : TableCall) (a : Answer) (u : Table) → Regular t → told t c ≡ accepted a u → Regular u
+pub accepted_keeps : (t : Table) (c : TableCall) (a : Answer c) (u : Table) → Regular t → told t c ≡ accepted a u → Regular u
 accepted_keeps t (defines d) a u g e =
     let f : DefineAccepted t d a u = define_accepted t d a u e in
     subst Regular (sym f.table) (placed_keeps d.can_id t d (omega arith) (omega arith) f.passes f.room (unused t g f.unspent) g)
 accepted_keeps t (batches ds n) a u g e =
-    let f : BatchAccepted t ds n a u = batch_accepted t ds n a u e in
+    let f : BatchAccepted t ds n u = batch_accepted t ds n a u e in
     subst Regular (sym f.table)
     (⊎_elim (λ (z : n ≡ 0). subst (λ (j : ℕ). Regular (appended_all t (take j ds))) (sym z) g)
     (λ (h : (t.next < 65535) × (t.next + n ≤ 65536)).
     all_keep (take n ds) t f.passes (omega (arith, f.room, length-take n ds)) (omega (arith, h.1, length-take n ds)) (unused t g (λ q. omega (arith, h.0))) g)
     (slots_enough n t.next g.bound f.slots))
 accepted_keeps t (removes s) a u g e =
-    let f : RemoveAccepted t s a u = remove_accepted t s a u e in
+    let f : RemoveAccepted t s u = remove_accepted t s a u e in
     subst Regular (sym f.table)
     (record {
       few = omega (arith, g.few, length-drop-first (has s) t.rows f.there);
@@ -144,7 +144,7 @@ moves_keep t g same_id same-signal k =
 pub after_keeps : (t : Table) (c : TableCall) → Regular t → Regular (after t c)
 after_keeps t c g = go (told t c) refl
   where
-    go : (x : Told) → told t c ≡ x → Regular (left t x)
+    go : (x : Told (Answer c)) → told t c ≡ x → Regular (left t x)
     go (accepted a u) e = accepted_keeps t c a u g e
     go (refused k) e = g
 
@@ -164,6 +164,6 @@ pub made_regular : (f : EwmaDetector) (vs : List Event) → Regular (ran (empty_
 made_regular f vs = ran_keeps vs (empty_table f) (empty_regular f)
 
 -- an engine under the promise of a call holds the table after the call
-pub follows : (e : SignalIdsEngine) (x : Told) → table_of (defined e x).engine ≡ left (table_of e) x
+pub follows : {A : Type 0} (e : SignalIdsEngine) (x : Told A) → table_of (defined e x).engine ≡ left (table_of e) x
 follows e (accepted a t) = table_engine t
 follows e (refused k) = refl

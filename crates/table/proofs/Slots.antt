@@ -12,12 +12,11 @@ use lib.Seq.{append_snoc}
 use borrow.Author.Tests.{ne_eqb, eqb-true}
 use Rattle.conversion.specs.declared.SignalDefinition.{SignalDefinition}
 use Rattle.detector.specs.declared.EwmaDetector.{EwmaDetector}
-use Rattle.table.specs.declared.Answer.{Answer}
 use Rattle.table.specs.declared.Signal.{Signal}
 use Rattle.table.specs.declared.Entry.{Entry}
 use Rattle.table.specs.Rows.{keep, some, drop_first, insert_behind, every, among}
 use Rattle.table.specs.Table.{Table, Told, accepted, refused, empty_table, entry_of, below, has, appended, appended_all}
-use Rattle.table.specs.Calls.{TableCall, defines, batches, removes, told, left, Event, calls, moves, with_detector, happened, ran, brought, numbered, given, granted}
+use Rattle.table.specs.Calls.{TableCall, Answer, defines, batches, removes, told, left, Event, calls, moves, with_detector, happened, ran, brought, numbered, given, granted}
 use Rattle.table.specs.Regular.{Apart, Rising, Regular}
 use Rattle.table.proofs.Lists.{every_weaken, every_append, every_insert, every_drop, every_move, pairs_append}
 use Rattle.table.proofs.Accepted.{DefineAccepted, define_accepted, RemoveAccepted, remove_accepted, BatchAccepted, batch_accepted, slots_enough}
@@ -45,7 +44,7 @@ pub record Gives (t : Table) (c : TableCall) (u : Table) : Type 0 where
   pub next : u.next ≡ min (t.next + length (brought c)) 65535
   pub slots : (brought c ≡ []) ⊎ ((t.next < 65535) × (t.next + length (brought c) ≤ 65536))
 
-pub gives : (t : Table) (c : TableCall) (a : Answer) (u : Table) → Regular t → told t c ≡ accepted a u → Gives t c u
+pub gives : (t : Table) (c : TableCall) (a : Answer c) (u : Table) → Regular t → told t c ≡ accepted a u → Gives t c u
 gives t (defines d) a u g e =
     let f : DefineAccepted t d a u = define_accepted t d a u e in
     record {
@@ -53,7 +52,7 @@ gives t (defines d) a u g e =
       slots = inr (omega (arith, f.unspent, g.bound), omega (arith, f.unspent, g.bound));
     }
 gives t (batches ds n) a u g e =
-    let f : BatchAccepted t ds n a u = batch_accepted t ds n a u e in
+    let f : BatchAccepted t ds n u = batch_accepted t ds n a u e in
     record {
       next = ap (λ (v : Table). v.next) f.table ∙ next_all (take n ds) t g.bound;
       slots =
@@ -61,7 +60,7 @@ gives t (batches ds n) a u g e =
           (slots_enough n t.next g.bound f.slots);
     }
 gives t (removes s) a u g e =
-    let f : RemoveAccepted t s a u = remove_accepted t s a u e in
+    let f : RemoveAccepted t s u = remove_accepted t s a u e in
     record { next = ap (λ (v : Table). v.next) f.table ∙ omega (arith, g.bound); slots = inl refl }
 
 -- ---- slots rise, and are never used again
@@ -84,7 +83,7 @@ granted_from [] t g = tt
 granted_from (moves m ∷ cs) t g = granted_from cs (happened t (moves m)) (happened_keeps t (moves m) g)
 granted_from (calls c ∷ cs) t g = go (told t c) refl (λ u k. granted_from cs u k)
   where
-    go : (x : Told) → told t c ≡ x → ((u : Table) → Regular u → every (From u.next) (granted u cs)) → every (From t.next) (given t.next (brought c) x ++ granted (left t x) cs)
+    go : (x : Told (Answer c)) → told t c ≡ x → ((u : Table) → Regular u → every (From u.next) (granted u cs)) → every (From t.next) (given t.next (brought c) x ++ granted (left t x) cs)
     go (refused k) e rest = rest t g
     go (accepted a u) e rest =
         let v : Gives t c u = gives t c a u g e in
@@ -98,7 +97,7 @@ granted_rising [] t g = tt
 granted_rising (moves m ∷ cs) t g = granted_rising cs (happened t (moves m)) (happened_keeps t (moves m) g)
 granted_rising (calls c ∷ cs) t g = go (told t c) refl (λ u k. granted_rising cs u k)
   where
-    go : (x : Told) → told t c ≡ x → ((u : Table) → Regular u → Rising (granted u cs)) → Rising (given t.next (brought c) x ++ granted (left t x) cs)
+    go : (x : Told (Answer c)) → told t c ≡ x → ((u : Table) → Regular u → Rising (granted u cs)) → Rising (given t.next (brought c) x ++ granted (left t x) cs)
     go (refused k) e rest = rest t g
     go (accepted a u) e rest =
         let v : Gives t c u = gives t c a u g e in
@@ -148,19 +147,19 @@ known_all (d ∷ c ∷ l) t g h k =
     (ap (λ (n : ℕ). (g ++ (s ∷ [])) ++ numbered n (c ∷ l)) next ∙ append_snoc g s (numbered (t.next + 1) (c ∷ l)))
     (known_all (c ∷ l) (appended t d) (g ++ (s ∷ [])) (omega arith) (known_insert g (d.can_id + 1) t.fresh t.next d t.rows k))
 
-known_after : (t : Table) (c : TableCall) (a : Answer) (u : Table) (g : List Signal) → Regular t → told t c ≡ accepted a u → Known g t.rows → Known (g ++ numbered t.next (brought c)) u.rows
+known_after : (t : Table) (c : TableCall) (a : Answer c) (u : Table) (g : List Signal) → Regular t → told t c ≡ accepted a u → Known g t.rows → Known (g ++ numbered t.next (brought c)) u.rows
 known_after t (defines d) a u g r e k =
     let f : DefineAccepted t d a u = define_accepted t d a u e in
     subst (λ (v : Table). Known (g ++ numbered t.next (d ∷ [])) v.rows) (sym f.table) (known_insert g d.can_id t.fresh t.next d t.rows k)
 known_after t (batches ds n) a u g r e k =
-    let f : BatchAccepted t ds n a u = batch_accepted t ds n a u e in
+    let f : BatchAccepted t ds n u = batch_accepted t ds n a u e in
     let v : Gives t (batches ds n) u = gives t (batches ds n) a u r e in
     subst (λ (w : Table). Known (g ++ numbered t.next (take n ds)) w.rows) (sym f.table)
     (⊎_elim (λ (z : take n ds ≡ []). subst (λ (l : List SignalDefinition). Known (g ++ numbered t.next l) (appended_all t l).rows) (sym z) (known_all [] t g (omega (arith, r.bound)) k))
     (λ (h : (t.next < 65535) × (t.next + length (take n ds) ≤ 65536)). known_all (take n ds) t g h.1 k)
     v.slots)
 known_after t (removes s) a u g r e k =
-    let f : RemoveAccepted t s a u = remove_accepted t s a u e in
+    let f : RemoveAccepted t s u = remove_accepted t s a u e in
     subst (λ (v : Table). Known (g ++ []) v.rows) (sym f.table)
     (every_drop (λ q. among q.signal (g ++ [])) (has s) t.rows (known_more g [] t.rows k))
 
@@ -170,7 +169,7 @@ ran_known (moves m ∷ cs) t g r k =
     ran_known cs (happened t (moves m)) g (happened_keeps t (moves m) r) (every_move (λ q. among q.signal g) (with_detector m) (λ q h. h) t.rows k)
 ran_known (calls c ∷ cs) t g r k = go (told t c) refl (λ u h v m. ran_known cs u h v m)
   where
-    go : (x : Told)
+    go : (x : Told (Answer c))
         → told t c ≡ x
         → ((u : Table) (h : List Signal) → Regular u → Known h u.rows → Known (h ++ granted u cs) (ran u cs).rows)
         → Known (g ++ (given t.next (brought c) x ++ granted (left t x) cs)) (ran (left t x) cs).rows

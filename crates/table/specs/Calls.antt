@@ -14,13 +14,19 @@ pub data TableCall : Type 0 where
   batches : List SignalDefinition → ℕ → TableCall
   removes : ℕ → TableCall
 
-abbrev pub told : Table → TableCall → Told
+-- what an accepted call answers: a definition's slot, and nothing else
+abbrev pub Answer : TableCall → Type 0
+Answer (defines d) = ℕ
+Answer (batches ds n) = Unit {0}
+Answer (removes s) = Unit {0}
+
+abbrev pub told : Table → (c : TableCall) → Told (Answer c)
 told t (defines d) = define' t d
 told t (batches ds n) = batch' t ds n
 told t (removes s) = remove' t s
 
 -- the table after an answer: a refusal leaves it
-abbrev pub left : Table → Told → Table
+abbrev pub left : {A : Type 0} → Table → Told A → Table
 left t (accepted a u) = u
 left t (refused k) = t
 
@@ -57,7 +63,7 @@ numbered s [] = []
 numbered s (d ∷ l) = record { slot = s; definition = d } ∷ numbered (s + 1) l
 
 -- an accepted call gives what it brings slots from the next slot on, a refused one gives none
-abbrev pub given : ℕ → List SignalDefinition → Told → List Signal
+abbrev pub given : {A : Type 0} → ℕ → List SignalDefinition → Told A → List Signal
 given s l (accepted a u) = numbered s l
 given s l (refused k) = []
 

@@ -1,6 +1,6 @@
 -- Document 01, "The table": what holds of every table that calls make.
 -- Assumes nothing.
-use Rattle.std.specs.Prelude.{◌≡◌, ◌⊎◌, List, ◌++◌, ℕ, ◌≤◌, ◌<◌, eqb, length}
+use Rattle.std.specs.Prelude.{◌≡◌, ◌⊎◌, List, ◌++◌, ℕ, ◌≤◌, ◌<◌, eqb, length, Ok}
 use Rattle.table.specs.declared.Signal.{Signal}
 use Rattle.table.specs.declared.Entry.{Entry}
 use Rattle.table.specs.Rows.{keep, every, pairs}
@@ -25,7 +25,7 @@ Used next s = (s < next) ⊎ ((s ≡ 65535) × (next ≡ 65535))
 -- what holds of each row: its identifier is its definition's, the definition passes the five tests, its slot was given
 pub record Proper (next : ℕ) (r : Entry) : Type 0 where
   pub id_is : r.id ≡ r.signal.definition.can_id
-  pub passes : fault r.signal.definition ≡ 0
+  pub passes : fault r.signal.definition ≡ Ok tt
   pub used : Used next r.signal.slot
 
 -- what holds of the table

@@ -29,8 +29,8 @@ pub overflow_add-v : goal.overflow_add-v
 overflow_add-v c =
     let a = c.args in
     let l = c.loop-k in
-    let b : c.wide.result < 256 = omega (arith, c.wide.ensures, c.type_inv.data (a.at + c.ranked.result)) in
-    record { fits = roomy a.«data».now a.order a.at a.n l.k l.v c.wide.result (omega arith) (omega arith) (omega arith) l.invariant.2 b }
+    let b : c.from.result < 256 = omega (arith, c.from.ensures, c.type_inv.data (a.at + c.ranked.result)) in
+    record { fits = roomy a.«data».now a.order a.at a.n l.k l.v c.from.result (omega arith) (omega arith) (omega arith) l.invariant.2 b }
 
 pub loop-k-preserved : goal.loop-k-preserved
 loop-k-preserved c =
@@ -40,14 +40,7 @@ loop-k-preserved c =
     let b : get_or a.«data».now (a.at + r.result) 0 < 256 = omega (arith, c.type_inv.data (a.at + r.result)) in (
       search rules,
       search rules,
-      down8 (signal_bit a.«data».now a.order (8 * a.at) (8 * a.n)) l.k a.n (search rules) (search rules) (rw c.wide.ensures b) l.invariant.2
+      down8 (signal_bit a.«data».now a.order (8 * a.at) (8 * a.n)) l.k a.n (search rules) (search rules) (rw c.from.ensures b) l.invariant.2
           (λ j hj. place_byte a.«data».now a.order a.at a.n (l.k - 1) j (search rules) hj
-          ∙ ap (λ (x : ℕ). bit_of x j) (ap (λ (q : ℕ). get_or a.«data».now (a.at + q) 0) (sym r.ensures.0) ∙ sym c.wide.ensures)),
+          ∙ ap (λ (x : ℕ). bit_of x j) (ap (λ (q : ℕ). get_or a.«data».now (a.at + q) 0) (sym r.ensures.0) ∙ sym c.from.ensures)),
     )
-
-pub returns : goal.returns
-returns c =
-    let a = c.args in
-    let l = c.loop-k in
-    let one : l.k ≡ 1 = omega arith in
-    l.invariant.2 ∙ ap (λ (k : ℕ). value (signal_bit a.«data».now a.order (8 * a.at) (8 * a.n)) (8 * k) (8 * a.n - 8 * k)) one

@@ -7,6 +7,3 @@ use Rattle.bits.proofs.above_lowest.Given as goal
 
 abbrev pub invariant-loop-k : goal.invariant-loop-k
 invariant-loop-k l = (1 ≤ l.k) × (l.k ≤ l.n) × (l.v ≡ value (signal_bit l.data l.order (8 * l.at) (8 * l.n)) (8 * l.k) (8 * l.n - 8 * l.k))
-
-abbrev pub decreases-loop-k : goal.decreases-loop-k
-decreases-loop-k l = l.k

@@ -17,21 +17,18 @@ low c =
     let below = c.bits_below-below in
     touched a.order a.m a.len ((a.m % 8 + a.len + 7) / 8) below.result refl below.ensures.0
 
-pub overflow_sub-v : goal.overflow_sub-v
-overflow_sub-v c = omega (arith, low c)
-
 pub overflow_add-v : goal.overflow_add-v
 overflow_add-v c =
     let a = c.args in
-    let small : c.wide.result < 256 = omega (arith, c.wide.ensures, c.type_inv.data (a.m / 8 + c.ranked.result)) in
-    record { fits = (joined c.wide.result c.above_lowest.result c.bits_below-below.result a.len small (low c).less (search rules)).fits }
+    let small : c.from.result < 256 = omega (arith, c.from.ensures, c.type_inv.data (a.m / 8 + c.ranked.result)) in
+    record { fits = (joined c.from.result c.above_lowest.result c.bits_below-below.result a.len small (low c).less (search rules)).fits }
 
 pub returns : goal.returns
 returns c =
     let a = c.args in
     let n : ℕ = (a.m % 8 + a.len + 7) / 8 in
     let high = c.above_lowest in
-    let x = c.wide in
+    let x = c.from in
     let below = c.bits_below-below in
     let small : x.result < 256 = omega (arith, x.ensures, c.type_inv.data (a.m / 8 + c.ranked.result)) in
     c.cut.ensures ∙ ap (λ (y : ℕ). y % 2 ^ a.len) (omega arith)

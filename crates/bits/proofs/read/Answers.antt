@@ -12,4 +12,4 @@ returns c =
     let below = c.bits_below-below in
     let w = c.eight_bytes in
     c.cut.ensures
-    ∙ within a.«data».now a.order (8 * c.least-at.result) 64 a.m a.len below.result w.result w.ensures below.ensures.0 (omega arith) (omega arith) (omega arith)
+    ∙ within a.«data».now a.order (8 * c.min-at.result) 64 a.m a.len below.result w.result w.ensures below.ensures.0 (omega arith) (omega arith) (omega arith)

@@ -20,14 +20,6 @@ loop-i-init c = (search rules, refl, λ j. (c.slice_known-1.given j).fits, λ q.
 at : (o : ByteOrder) (m len i r p : ℕ) → r ≡ rank o len i → p ≡ turn o (m + r) → p ≡ place o m len i
 at o m len i r p er ep = ep ∙ ap (λ (x : ℕ). turn o (m + x)) er
 
-pub put-requires : goal.put-requires
-put-requires c =
-    let a = c.args in
-    let l = c.loop-i in
-    let there = at a.order a.m a.len l.i c.ranked.result c.turned.result c.ranked.ensures.0 c.turned.ensures.0 in
-    let within : c.turned.result < 8 * length l.«data» = rw there (place_in a.order a.m a.len (length l.«data») l.i (omega arith) (omega arith)) in
-    (within, omega arith)
-
 pub loop-i-preserved : goal.loop-i-preserved
 loop-i-preserved c =
     let a = c.args in

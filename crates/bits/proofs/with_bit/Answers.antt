@@ -8,15 +8,6 @@ use Rattle.bits.proofs.with_bit.Goals as goal
 facts : (c : goal.After-weight-w) → Changed c.args.x c.args.k c.args.b c.weight-w.result
 facts c = changed c.args.x c.args.k c.args.b c.weight-w.result c.ranges.x.fits (search rules) (search rules) c.weight-w.ensures
 
-pub overflow_mul-result : goal.overflow_mul-result
-overflow_mul-result c = omega (arith, facts c)
-
-pub overflow_sub-result : goal.overflow_sub-result
-overflow_sub-result c = (facts c).had
-
-pub overflow_mul-result-2 : goal.overflow_mul-result-2
-overflow_mul-result-2 c = record { fits = (facts c).less }
-
 pub overflow_add-result : goal.overflow_add-result
 overflow_add-result c = omega (arith, facts c)
 

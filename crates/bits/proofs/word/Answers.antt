@@ -1,7 +1,8 @@
 -- `bits::word` meets its contract: eight bytes as one number are the raw number of their 64 bits.
 -- Assumes nothing.
-use mathlib.Core.Path.{refl, sym, ap, ◌∙◌}
-use Prim.Native.Nat.{ℕ}
+use native.Mathlib.Omega.{arith}
+use mathlib.Core.Path.{◌≡◌, refl, sym, ap, ◌∙◌}
+use Prim.Native.Nat.{ℕ, ◌+◌, ◌*◌}
 use native.Mathlib.Nat.{add-zero}
 use lib.ListN.{get_or}
 use Rattle.bits.specs.Signal.{signal_byte}
@@ -14,5 +15,6 @@ pub returns : goal.returns
 returns c =
     let a = c.args in
     let d = a.«data».now in
-    eight_bytes (signal_byte d LittleEndian a.at 8) c.number_of.ensures (ap (λ (k : ℕ). get_or d k 0) (sym (add-zero a.at))) refl refl refl refl refl refl refl
+    let sum : c.from_le_bytes.result ≡ get_or d a.at 0 + 256 * (get_or d (a.at + 1) 0 + 256 * (get_or d (a.at + 2) 0 + 256 * (get_or d (a.at + 3) 0 + 256 * (get_or d (a.at + 4) 0 + 256 * (get_or d (a.at + 5) 0 + 256 * (get_or d (a.at + 6) 0 + 256 * get_or d (a.at + 7) 0)))))) = omega (arith, c.from_le_bytes.ensures) in
+    eight_bytes (signal_byte d LittleEndian a.at 8) sum (ap (λ (k : ℕ). get_or d k 0) (sym (add-zero a.at))) refl refl refl refl refl refl refl
     ∙ bytes_are_bits d LittleEndian a.at 8 (λ j. (c.type_inv.data j).fits)

@@ -17,21 +17,6 @@ digits_le n r p e = le_trans (le_of_eq (digits_is n r p e)) (digits_high n (coun
 pub returns-then-n-eq0 : goal.returns-then-n-eq0
 returns-then-n-eq0 c = zero_pattern ∙ ap (λ (n : ℕ). of_int binary32 (pos n)) (sym c.if-n-eq0.true)
 
-pub overflow_cast-zeros : goal.overflow_cast-zeros
-overflow_cast-zeros c = let h = (top c.args.n (omega (arith, c.if-n-eq0.false)) c.ranges.n.fits).0 in record { fits = omega arith }
-
-pub overflow_shl-n : goal.overflow_shl-n
-overflow_shl-n c = let h = (top c.args.n (omega (arith, c.if-n-eq0.false)) c.ranges.n.fits).0 in omega arith
-
-pub overflow_sub-result : goal.overflow_sub-result
-overflow_sub-result c = let h = (top c.args.n (omega (arith, c.if-n-eq0.false)) c.ranges.n.fits).0 in omega arith
-
-pub overflow_cast-result : goal.overflow_cast-result
-overflow_cast-result c = let h = digits_le c.args.n c.significand-digits.result (top c.args.n (omega (arith, c.if-n-eq0.false)) c.ranges.n.fits) c.significand-digits.ensures in record { fits = omega arith }
-
-pub overflow_add-result : goal.overflow_add-result
-overflow_add-result c = let h = digits_le c.args.n c.significand-digits.result (top c.args.n (omega (arith, c.if-n-eq0.false)) c.ranges.n.fits) c.significand-digits.ensures in record { fits = omega arith }
-
 pub float_from_bits-result : goal.float_from_bits-result
 float_from_bits-result c = let h = digits_le c.args.n c.significand-digits.result (top c.args.n (omega (arith, c.if-n-eq0.false)) c.ranges.n.fits) c.significand-digits.ensures in no_nan _ (omega arith)
 

@@ -1,20 +1,8 @@
 -- `conversion::signed_value` meets its contract, by `proofs/Signed.antt`. Assumes nothing.
-use Rattle.std.proofs.Common.{ℕ, ◌-◌, ◌<◌, ◌≤◌, pos, sym, ap, ◌∙◌, subst}
+use Rattle.std.proofs.Common.{ℕ, ◌-◌, ◌≤◌, pos, ap, ◌∙◌, subst}
 use lib.Ieee.{binary32, neg, of_int}
-use Rattle.conversion.proofs.Signed.{half, low_is, rest_le, high_float}
+use Rattle.conversion.proofs.Signed.{half, high_float}
 use Rattle.conversion.proofs.signed_value.Goals as goal
-
-pub overflow_sub-half-else-raw-half : goal.overflow_sub-half-else-raw-half
-overflow_sub-half-else-raw-half c =
-    let L = c.args.length in
-    let raw = c.args.raw in
-    subst (λ (h : ℕ). raw - h ≤ h) (sym (half L raw c.requires)) (rest_le L raw c.requires)
-
-pub returns-then-raw-half : goal.returns-then-raw-half
-returns-then-raw-half c =
-    let L = c.args.length in
-    let raw = c.args.raw in
-    c.nearest_u64.ensures ∙ ap (of_int binary32) (sym (low_is L raw c.requires (subst (λ (h : ℕ). raw < h) (half L raw c.requires) c.if-raw-half.true)))
 
 pub returns-else-raw-half : goal.returns-else-raw-half
 returns-else-raw-half c =

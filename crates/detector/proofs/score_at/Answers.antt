@@ -1,20 +1,21 @@
--- `detector::score_at` meets its contract. Each arm returns what the tests on the way to it pick. Assumes nothing.
-use Rattle.detector.proofs.Told.{told}
+-- `detector::score_at` meets its contract. Assumes nothing.
+use Rattle.std.proofs.Common.{arith}
+use Rattle.detector.proofs.Floats.{finite_is}
 use Rattle.detector.specs.Ewma.{score_at}
 use Rattle.detector.proofs.score_at.Goals as goal
 
 pub returns-then-is_finite : goal.returns-then-is_finite
 unfolding score_at
-returns-then-is_finite c = rw (c.if-deviation.true, told c.is_finite.ensures c.if-is_finite.true)
+returns-then-is_finite c = grind (arith, finite_is)
 
 pub returns-else-is_finite : goal.returns-else-is_finite
 unfolding score_at
-returns-else-is_finite c = rw (c.if-deviation.true, told c.is_finite.ensures c.if-is_finite.false)
+returns-else-is_finite c = grind (arith, finite_is)
 
 pub returns-then-a : goal.returns-then-a
 unfolding score_at
-returns-then-a c = rw (c.if-deviation.false, c.if-a.true)
+returns-then-a c = grind (arith, finite_is)
 
 pub returns-else-a : goal.returns-else-a
 unfolding score_at
-returns-else-a c = rw (c.if-deviation.false, c.if-a.false)
+returns-else-a c = grind (arith, finite_is)

@@ -3,8 +3,5 @@
 use Rattle.framelog.proofs.Turns.{Reached}
 use Rattle.framelog.proofs.run.Given as goal
 
-abbrev pub invariant-loop-turns : goal.invariant-loop-turns
-invariant-loop-turns l = Reached l.initial.input l.initial.out l.input l.out l.st l.turns
-
-abbrev pub decreases-loop-turns : goal.decreases-loop-turns
-decreases-loop-turns l = l.turns
+abbrev pub invariant-loop : goal.invariant-loop
+invariant-loop l = Reached l.initial.input l.initial.out l.input l.out l.st l.counter

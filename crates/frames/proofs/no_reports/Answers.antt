@@ -1,7 +1,11 @@
 -- `frames::no_reports` meets its contract.
 -- Assumes nothing.
-use Rattle.frames.proofs.Answers.{blank_is}
+use mathlib.Core.Path.{refl}
+use mathlib.Core.List.{flat_map}
+use Rattle.table.specs.Rows.{pad}
+use Rattle.frames.specs.Frames.{blank_anomaly, blank_report}
 use Rattle.frames.proofs.no_reports.Goals as goal
 
 pub returns : goal.returns
-returns c = blank_is c.blank_anomaly-anomaly.result c.blank_report-report.result c.blank_anomaly-anomaly.ensures c.blank_report-report.ensures
+unfolding blank_anomaly blank_report pad flat_map
+returns c = refl

@@ -9,5 +9,5 @@ pub returns : goal.returns
 returns c =
     let a = c.args in
     c.process.ensures
-    ∙ ap (λ (i : ℕ). processed a.engine i a.frame.is_extended a.frame.«data» c.payload_len-n.result) c.effective_can_id-id.ensures
-    ∙ ap (processed a.engine (effective_of a.frame) a.frame.is_extended a.frame.«data») c.payload_len-n.ensures
+    ∙ ap (λ (i : ℕ). processed a.engine i a.frame.is_extended a.frame.«data» c.payload_len.result) c.effective_can_id.ensures
+    ∙ ap (processed a.engine (effective_of a.frame) a.frame.is_extended a.frame.«data») c.payload_len.ensures

@@ -11,5 +11,5 @@ returns c =
     let a = c.args in
     let h = a.header in
     c.process.ensures
-    ∙ ap (λ (i : ℕ). processed a.engine i h.is_extended a.bytes.now c.payload_by-n.result) c.effective_by-id.ensures
+    ∙ ap (λ (i : ℕ). processed a.engine i h.is_extended a.bytes.now c.payload_by-n.result) c.effective_by.ensures
     ∙ ap (processed a.engine (effective_by h.is_extended h.id) h.is_extended a.bytes.now) c.payload_by-n.ensures

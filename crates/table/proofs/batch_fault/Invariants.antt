@@ -1,12 +1,7 @@
--- `table::batch_fault` meets its contract. Assumes nothing.
-use mathlib.Core.Path.{◌≡◌}
-use Prim.Native.Nat.{◌-◌, ◌≤◌}
-use lib.ListN.{take, drop}
+-- `table::batch_fault` meets its contract: no definition so far has a fault. Assumes nothing.
+use Rattle.std.proofs.Common.{◌≡◌, drop}
 use Rattle.table.specs.Table.{faults}
 use Rattle.table.proofs.batch_fault.Given as goal
 
-abbrev pub invariant-loop-i : goal.invariant-loop-i
-invariant-loop-i l = (l.i ≤ l.n) × (faults (take l.n l.defs) ≡ faults (drop l.i (take l.n l.defs)))
-
-abbrev pub decreases-loop-i : goal.decreases-loop-i
-decreases-loop-i l = l.n - l.i
+abbrev pub invariant-loop-d : goal.invariant-loop-d
+invariant-loop-d l = faults l.defs ≡ faults (drop l.d-index l.defs)

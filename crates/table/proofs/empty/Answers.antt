@@ -3,4 +3,4 @@ use Rattle.table.proofs.Columns.{empty_is}
 use Rattle.table.proofs.empty.Goals as goal
 
 pub returns : goal.returns
-returns c = empty_is c.args.fresh c.blank_signal-b.result c.blank_signal-b.ensures
+returns c = empty_is c.args.fresh c.blank_signal.result c.blank_signal.ensures

@@ -7,7 +7,7 @@ use mathlib.Core.Path.{ap}
 use Rattle.can_log.specs.declared.stream.Log.{Log}
 use Rattle.can_log.proofs.stream.start.Goals as goal
 
-abbrev begun : Defined → Log
+abbrev begun : Defined Unit → Log
 begun made = record { count = 0; engine = made.engine }
 
 pub returns : goal.returns

@@ -1,12 +1,13 @@
 -- `detector::EwmaDetector::recalibrate` meets its contract. Assumes nothing.
-use mathlib.Core.Path.{sym, ◌∙◌}
+use Rattle.std.proofs.Common.{arith}
+use Rattle.detector.proofs.Floats.{finite_is}
 use Rattle.detector.specs.Ewma.{recalibrated}
 use Rattle.detector.proofs.EwmaDetector.recalibrate.Goals as goal
 
 pub returns-then-not-is_finite : goal.returns-then-not-is_finite
 unfolding recalibrated
-returns-then-not-is_finite c = rw ((sym c.is_finite.ensures ∙ c.if-not-is_finite.true))
+returns-then-not-is_finite c = grind (arith, finite_is)
 
 pub returns : goal.returns
 unfolding recalibrated
-returns c = rw ((sym c.is_finite.ensures ∙ c.if-not-is_finite.false))
+returns c = grind (arith, finite_is)

@@ -1,17 +1,13 @@
 -- `models::HistogramDetector::reset` meets its contract.
 -- Assumes nothing.
-use mathlib.Core.List.{List}
 use mathlib.Core.Path.{sym, ap₂, ◌∙◌}
-use Prim.Native.Nat.{ℕ}
-use Rattle.models.specs.declared.HistogramDetector.{HistogramDetector}
 use Rattle.models.specs.Histogram.{binned}
 use Rattle.models.proofs.Parts.{reset_done, reset_refused}
 use Rattle.models.proofs.HistogramDetector.reset.Goals as goal
 
-pub returns-then-not-bins_fit : goal.returns-then-not-bins_fit
-returns-then-not-bins_fit c = let a = c.args in sym (reset_refused a.self a.counts.now ((sym c.bins_fit.ensures ∙ c.if-not-bins_fit.true)))
+pub returns-in_default : goal.returns-in_default
+returns-in_default c = rw c.refused.ensures (sym (reset_refused c.args.self c.args.counts.now (sym c.in_default.ensures.told)))
 
 pub returns : goal.returns
 returns c =
-    let a = c.args in
-    ap₂ (λ (m : HistogramDetector) (l : List ℕ). binned 0 m l) c.fresh-model.ensures c.clear.ensures ∙ sym (reset_done a.self a.counts.now ((sym c.bins_fit.ensures ∙ c.if-not-bins_fit.false)))
+    rw c.done.ensures (ap₂ (binned 0) c.fresh.ensures (c.fill.ensures.after (λ y e. e)) ∙ sym (reset_done c.args.self c.args.counts.now (sym c.in-Ok.ensures.told)))

@@ -4,10 +4,10 @@ use mathlib.Core.Path.{sym, ◌∙◌}
 use Rattle.models.proofs.Parts.{same-stated, states_reset, states_kept}
 use Rattle.models.proofs.MarkovDetector.reset.Goals as goal
 
-pub returns-then-not-states_fit : goal.returns-then-not-states_fit
-returns-then-not-states_fit c = let a = c.args in sym (states_kept a.self a.transition.now a.row_totals.now ((sym c.states_fit.ensures ∙ c.if-not-states_fit.true)))
+pub returns-in_default : goal.returns-in_default
+returns-in_default c = rw c.refused.ensures (sym (states_kept c.args.self c.args.transition.now c.args.row_totals.now (sym c.in_default.ensures.told)))
 
 pub returns : goal.returns
 returns c =
-    let a = c.args in
-    same-stated c.fresh-model.ensures c.clear.ensures c.clear-2.ensures ∙ sym (states_reset a.self a.transition.now a.row_totals.now ((sym c.states_fit.ensures ∙ c.if-not-states_fit.false)))
+    rw c.done.ensures (same-stated c.fresh.ensures (c.fill.ensures.after (λ y e. e)) (c.fill-2.ensures.after (λ y e. e))
+    ∙ sym (states_reset c.args.self c.args.transition.now c.args.row_totals.now (sym c.in-Ok.ensures.told)))

@@ -19,22 +19,14 @@ overflow_add-word c =
     let e = c.word.ensures in
     record { fits = lt_of_le_of_lt (le_of_eq sum) (room (word_of a.self a.value) (a.value % 64) (lt_of_le_of_lt (le_of_eq (sym e)) (search rules)) (omega arith) (sym c.has.ensures ∙ c.if-has.false)) }
 
-pub returns-then-value-lt64 : goal.returns-then-value-lt64
-returns-then-value-lt64 c =
-    let a = c.args in
-    marks a.self a.value (c.word.result + c.bit.result) 0 (sym c.has.ensures ∙ c.if-has.false) (ap₂ (λ (x y : ℕ). x + y) c.word.ensures c.bit.ensures) (omega arith)
+pub returns-in-0-to-63 : goal.returns-in-0-to-63
+returns-in-0-to-63 c = marks c.args.self c.args.value (c.word.result + c.bit.result) 0 (sym c.has.ensures ∙ c.if-has.false) (cc) (omega arith)
 
-pub returns-then-value-lt128 : goal.returns-then-value-lt128
-returns-then-value-lt128 c =
-    let a = c.args in
-    marks a.self a.value (c.word.result + c.bit.result) 1 (sym c.has.ensures ∙ c.if-has.false) (ap₂ (λ (x y : ℕ). x + y) c.word.ensures c.bit.ensures) (omega arith)
+pub returns-in-64-to-127 : goal.returns-in-64-to-127
+returns-in-64-to-127 c = marks c.args.self c.args.value (c.word.result + c.bit.result) 1 (sym c.has.ensures ∙ c.if-has.false) (cc) (omega arith)
 
-pub returns-then-value-lt192 : goal.returns-then-value-lt192
-returns-then-value-lt192 c =
-    let a = c.args in
-    marks a.self a.value (c.word.result + c.bit.result) 2 (sym c.has.ensures ∙ c.if-has.false) (ap₂ (λ (x y : ℕ). x + y) c.word.ensures c.bit.ensures) (omega arith)
+pub returns-in-128-to-191 : goal.returns-in-128-to-191
+returns-in-128-to-191 c = marks c.args.self c.args.value (c.word.result + c.bit.result) 2 (sym c.has.ensures ∙ c.if-has.false) (cc) (omega arith)
 
-pub returns : goal.returns
-returns c =
-    let a = c.args in
-    marks a.self a.value (c.word.result + c.bit.result) 3 (sym c.has.ensures ∙ c.if-has.false) (ap₂ (λ (x y : ℕ). x + y) c.word.ensures c.bit.ensures) (omega arith)
+pub returns-in_default : goal.returns-in_default
+returns-in_default c = marks c.args.self c.args.value (c.word.result + c.bit.result) 3 (sym c.has.ensures ∙ c.if-has.false) (cc) (omega arith)

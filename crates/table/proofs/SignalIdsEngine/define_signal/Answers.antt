@@ -1,44 +1,22 @@
 -- `table::SignalIdsEngine::define_signal` meets its contract. Assumes nothing.
-use mathlib.Core.Path.{◌≡◌, sym, ap, ◌∙◌}
-use Prim.Native.Nat.{ℕ, ◌<◌}
-use native.Mathlib.Omega.{arith}
-use lib.ListN.{length}
-use Rattle.table.specs.declared.SignalIdsEngine.{SignalIdsEngine}
-use Rattle.table.specs.declared.Defined.{Defined}
-use Rattle.table.specs.declared.Answer.TheVariants.{Slot}
-use Rattle.table.specs.Table.{live, table_of, fault, defined}
-use Rattle.table.proofs.Columns.{sound_of_lem, length-live}
-use Rattle.table.proofs.Answers.{define_fault, define_full, define_spent, define_new}
+use Rattle.std.proofs.Common.{ℕ, sym, ap, ◌∙◌}
+use Rattle.table.specs.Table.{Table, table_of, engine_of, define', placed_behind, added}
+use Rattle.table.proofs.Columns.{table_engine, blank_behind}
+use Rattle.table.proofs.Accepted.{define_accepted}
+use Rattle.table.proofs.Answers.{accepted_told, accepted_is}
 use Rattle.table.proofs.SignalIdsEngine.define_signal.Goals as goal
 
-abbrev answered : ℕ → SignalIdsEngine → Defined
-answered s r = record { answer = Slot s; engine = r }
-
-pub returns-then-bad-ne0 : goal.returns-then-bad-ne0
-returns-then-bad-ne0 c =
-    let e = c.args.self in
-    c.refuse.ensures ∙ ap (defined e) (sym (define_fault (table_of e) c.args.d _ c.refusal-bad.ensures c.if-bad-ne0.true))
-
-pub returns-then-n-ge64 : goal.returns-then-n-ge64
-returns-then-n-ge64 c =
-    let no_fault : fault c.args.d ≡ 0 = sym c.refusal-bad.ensures ∙ c.if-bad-ne0.false in
-    let many : length (live c.args.self) ≡ c.clamp-n.result = length-live c.args.self (sound_of_lem _ c.well_formed.0) _ c.clamp-n.ensures in
-    let e = c.args.self in
-    c.refuse-then-n-ge64.ensures ∙ ap (defined e) (sym (define_full (table_of e) c.args.d no_fault (omega (arith, many, c.if-n-ge64.true))))
-
-pub returns-then-slot : goal.returns-then-slot
-returns-then-slot c =
-    let no_fault : fault c.args.d ≡ 0 = sym c.refusal-bad.ensures ∙ c.if-bad-ne0.false in
-    let many : length (live c.args.self) ≡ c.clamp-n.result = length-live c.args.self (sound_of_lem _ c.well_formed.0) _ c.clamp-n.ensures in
-    let room : length (live c.args.self) < 64 = omega (arith, many, c.if-n-ge64.false) in
-    let e = c.args.self in
-    c.refuse-then-slot.ensures ∙ ap (defined e) (sym (define_spent (table_of e) c.args.d no_fault room c.if-slot.true))
+pub place-requires-clause-tidy : goal.place-requires-clause-tidy
+place-requires-clause-tidy c = blank_behind (table_of c.args.self) c.tidy.ensures
 
 pub returns : goal.returns
 returns c =
-    let no_fault : fault c.args.d ≡ 0 = sym c.refusal-bad.ensures ∙ c.if-bad-ne0.false in
-    let many : length (live c.args.self) ≡ c.clamp-n.result = length-live c.args.self (sound_of_lem _ c.well_formed.0) _ c.clamp-n.ensures in
-    let room : length (live c.args.self) < 64 = omega (arith, many, c.if-n-ge64.false) in
-    let e = c.args.self in
-    ap (λ (r : SignalIdsEngine). answered e.next_slot r) c.placed-out.ensures
-    ∙ ap (defined e) (sym (define_new (table_of e) c.args.d no_fault room c.if-slot.false))
+    let t = table_of c.args.self in
+    let d = c.args.d in
+    let told = accepted_told (define' t d) c.in-Ok.ensures in
+    let f = define_accepted t d c.in-Ok.slot told.0 told.1 in
+    accepted_is c.args.self told.1
+    (c.place.ensures
+    ∙ ap (λ (limit : ℕ). engine_of (placed_behind limit (table_of c.tidy.new.self) d)) c.from.ensures
+    ∙ ap (λ (u : Table). engine_of (added u d)) (ap table_of c.tidy.ensures ∙ table_engine t)
+    ∙ ap engine_of (sym f.table))

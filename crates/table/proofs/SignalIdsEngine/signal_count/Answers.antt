@@ -1,5 +1,5 @@
 -- `table::SignalIdsEngine::signal_count` meets its contract. Assumes nothing.
-use mathlib.Core.Path.{sym}
+use Rattle.std.proofs.Common.{sym}
 use Rattle.table.proofs.Columns.{sound_of_lem, length-live}
 use Rattle.table.proofs.SignalIdsEngine.signal_count.Goals as goal
 

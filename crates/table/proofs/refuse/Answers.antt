@@ -1,6 +1,0 @@
--- `table::refuse` meets its contract. Assumes nothing.
-use mathlib.Core.Path.{refl}
-use Rattle.table.proofs.refuse.Goals as goal
-
-pub returns : goal.returns
-returns c = refl

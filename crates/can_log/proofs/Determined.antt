@@ -18,6 +18,10 @@ use Rattle.can_log.specs.Records.{Front, item_means}
 use Rattle.can_log.specs.Lines.{Written, wrote, no_room, rendered_means}
 use Rattle.can_log.specs.Output.{Standing, status_means}
 use Rattle.can_log.proofs.decode.item_at_front.Reads as item-at-front
+use Rattle.can_log.proofs.decode.U8FromStop.from.Reads as number
+use Rattle.can_log.proofs.decode.MarkTryFromArrayU82.try_from.Reads as mark
+use Rattle.can_log.proofs.lines.AnswerFromResultU16TableError.from.Reads as slot-answer
+use Rattle.can_log.proofs.lines.AnswerFromResultUnitTableError.from.Reads as done-answer
 use Rattle.can_log.proofs.lines.render.Reads as render
 use Rattle.can_log.proofs.stream.start.Reads as start
 use Rattle.can_log.proofs.stream.advance.Reads as advance
@@ -100,3 +104,16 @@ advance_determined κs a r q x y p w = (
   alike r q (p.log ∙ sym w.log) (p.used ∙ sym w.used) (p.put.stop ∙ sym w.put.stop) (status_settled r.status q.status (p.status ∙ sym w.status)),
   p.put.done ∙ sym w.put.done,
 )
+
+-- ---- the conversions
+pub number_determined : Determines number.Learnt
+number_determined κs a r q x y p w = p ∙ sym w
+
+pub mark_determined : Determines mark.Learnt
+mark_determined κs a r q x y p w = p ∙ sym w
+
+pub slot_answer_determined : Determines slot-answer.Learnt
+slot_answer_determined κs a r q x y p w = p ∙ sym w
+
+pub done_answer_determined : Determines done-answer.Learnt
+done_answer_determined κs a r q x y p w = p ∙ sym w

@@ -23,7 +23,6 @@ use Rattle.can_log.specs.Records.{stop_number, item_means, request_means, item_o
 use Rattle.can_log.specs.Lines.{Put, anomaly_lines}
 use Rattle.can_log.specs.Output.{Standing, status_means, processed_by, data_size, frame_size, data_of, Move, step_of, goes_on, run, output_from, stop_step, wait_step, request_step, frame_step}
 use Rattle.can_log.specs.Pieces.{Does, run_on, advance_of, full_move, behind, after, sound_of}
-use Rattle.can_log.proofs.Below.{few}
 use Rattle.can_log.proofs.Texts.{then, named, nothing}
 use Rattle.can_log.proofs.Steps.{going, choose, does, at_item, at_request, has, counts_on, asks, step_count, step_length, step_used}
 
@@ -234,9 +233,6 @@ module _ {s : List ℕ} {e : Bool} {d : List ℕ} {log₀ : Log} {out : List ℕ
           call_here : request_step log (request_means c) ≡ step_of e log (drop used s)
           call_here = at_request e log (drop used s) c ∙ at_item e log (drop used s) (item_means i) (request_means c) front (ap item_means q)
 
-          pub call_used : used + r.used ≤ length s
-          call_used = used_in (request_step log (request_means c)) call_here p
-
           pub call_more : goes_on (status_means r.status) ≡ true → Turned s e d log₀ out' r.log (used + r.used) r.end
           call_more g = more (request_step log (request_means c)) call_here p g
 
@@ -257,9 +253,6 @@ module _ {s : List ℕ} {e : Bool} {d : List ℕ} {log₀ : Log} {out : List ℕ
         pub frame_counts : log.count < 4294967295
         frame_counts = counts_on log.count (drop used s) (item_means i) (item_means (Ok (Some (Item.Frame h)))) front (ap item_means q) w.few_enough (omega arith)
 
-        pub frame_less : length s - (used + 8 + n) < length s - used
-        frame_less = omega (arith, frame_used)
-
         -- its data bytes, as the code lends them
         abbrev lent : List ℕ
         lent = take (used + 8 + n - (used + 8)) (drop (used + 8) s)
@@ -275,12 +268,6 @@ module _ {s : List ℕ} {e : Bool} {d : List ℕ} {log₀ : Log} {out : List ℕ
               ap (λ (k : ℕ). frame_step log (8 + k) (frame_with h lent)) size
               ∙ ap (λ (l : List ℕ). frame_step log (frame_size h) (frame_with h l)) lent_data
               ∙ at_item e log (drop used s) (item_means i) (item_means (Ok (Some (Item.Frame h)))) front (ap item_means q)
-
-          -- its lines have room
-          pub frame_room : (y.result.anomaly_count ≤ 8) × (end + 55 * y.result.anomaly_count ≤ length out)
-          frame_room =
-              let k : y.result.anomaly_count ≤ 8 = omega (arith, ap (λ (z : Framed). z.result.anomaly_count) ey, few log.engine (frame_with h lent)) in
-              (k, omega arith)
 
           pub frame_more : {end' : ℕ} {out' : List ℕ} → Put out end (anomaly_lines (log.count + 1) (take y.result.anomaly_count y.result.anomalies)) end' out'
               → Turned s e d log₀ out' (record { count = log.count + 1; engine = y.engine }) (used + 8 + n) end'

@@ -6,8 +6,8 @@ use bits::ByteOrder;
 use conversion::{Condition, SignalDefinition, f32_of_bits};
 use frames::FrameHeader;
 
-// Why the log stops, each with document 01's number. Where the input ends inside a record it is `Cut`.
-#[derive(Clone, Copy, PartialEq, Eq)]
+// Why the log stops, each with the documents' number. Where the input ends inside a record it is `Cut`.
+#[derive(Clone, Copy, Debug, PartialEq, Eq)]
 pub enum Stop {
     UnknownMark = 10,
     Cut = 11,
@@ -99,7 +99,7 @@ pub enum Item {
     Frame(FrameHeader),
 }
 
-// Little-endian numbers at a place.
+// Little-endian numbers at a place. Two functions: `from_le_bytes` is in no trait that one could ask for.
 fn u16_at(s: &[u8], i: usize) -> u16
     requires { i + 1 < length s.now }
     ensures { result ≡ le16 s.now i }
@@ -114,6 +114,7 @@ fn u32_at(s: &[u8], i: usize) -> u32
     u32::from_le_bytes([s[i], s[i + 1], s[i + 2], s[i + 3]])
 }
 
+// The kinds of records. Slices with their length in the contract: `record_of` cuts the record by the mark's size.
 #[tactic(auto, unfolding(crate::specs::Records::settings_of))]
 fn settings(s: &[u8]) -> Item
     requires { length s.now ≡ 10 }
@@ -186,6 +187,7 @@ fn remove(s: &[u8]) -> Item
     Item::Call(Request::Remove(u16_at(s, 2)))
 }
 
+// Two functions for the two kinds of frames: flags, length and remote are each tested another way.
 fn frame(s: &[u8]) -> Result<Item, Stop>
     requires { length s.now ≡ 16 }
     ensures { item_means (in_front result) ≡ frame_of s.now }

@@ -28,6 +28,7 @@ impl From<Result<u16, TableError>> for Answer {
     }
 }
 
+// Two impls: Ok is a slot in one and plain success in the other.
 impl From<Result<(), TableError>> for Answer {
     ghost from_gives = { λ r a. a ≡ done_answer r };
 
@@ -51,10 +52,10 @@ pub enum LogLine {
 }
 
 // The buffer is shorter than a line may be, and is as it was.
-#[derive(Clone, Copy, PartialEq, Eq)]
+#[derive(Clone, Copy, Debug, PartialEq, Eq)]
 pub struct NoRoom;
 
-// A line while it is built, of at most 55 bytes: no line is longer.
+// A line while it is built, of at most 55 bytes: no line is longer. An array with its length, since there is no heap.
 #[derive(Drop)]
 struct Line {
     bytes: [u8; 55],
@@ -120,17 +121,19 @@ impl Line {
     }
 }
 
+// No `Display` and no `io::hex` for the numbers: `write!` promises its text only where it answers Ok, and `io::hex` writes lower case.
 // An upper-case hexadecimal digit.
 fn digit(d: u32) -> u8
     requires { d < 16 }
     ensures { result ≡ upper d }
 {
     if d < 10 {
-        return 48 + d as u8;
+        return b'0' + d as u8;
     }
-    55 + d as u8
+    b'A' - 10 + d as u8
 }
 
+// Digit by digit and in no loop, as `hex8` has them.
 fn hex(n: u32) -> [u8; 8]
     ensures { result ≡ hex8 n }
 {
@@ -147,10 +150,9 @@ fn hex(n: u32) -> [u8; 8]
 }
 
 // The line of a table call, whose letter is D or R.
-fn answer_line(letter: &[u8], n: u32, answer: Answer) -> Line
-    requires { length letter.now ≤ 25 }
+fn answer_line(letter: &[u8; 2], n: u32, answer: Answer) -> Line
     ensures text { result ≡ answer_line letter.now n answer }
-    ensures len { length result ≤ length letter.now + 30 }
+    ensures len { length result ≤ 32 }
 {
     let mut line = Line::new();
     line.put(letter);
@@ -202,9 +204,14 @@ fn anomaly_line(n: u32, x: SignalAnomaly) -> Line
     line
 }
 
-pub(crate) fn put_answer(out: &mut [u8], at: usize, letter: &[u8], n: u32, answer: Answer) -> usize
-    requires room { at + length letter.now + 30 ≤ length out.old }
-    requires letter { length letter.now ≤ 25 }
+pub(crate) fn put_answer(
+    out: &mut [u8],
+    at: usize,
+    letter: &[u8; 2],
+    n: u32,
+    answer: Answer,
+) -> usize
+    requires { at + 32 ≤ length out.old }
     ensures { Put out.old at (answer_line letter.now n answer) result out.new }
 {
     answer_line(letter, n, answer).write(out, at)
@@ -217,19 +224,13 @@ pub(crate) fn put_end(out: &mut [u8], at: usize, n: u32, k: u8) -> usize
     end_line(n, k).write(out, at)
 }
 
-// A line for each of the first `count` anomalies.
-pub(crate) fn put_anomalies(
-    out: &mut [u8],
-    at: usize,
-    n: u32,
-    list: [SignalAnomaly; 8],
-    count: usize,
-) -> usize
-    requires { (count ≤ 8) × (at + 55 * count ≤ length out.old) }
-    ensures { Put out.old at (anomaly_lines n (take count list)) result out.new }
+// A line for each anomaly.
+pub(crate) fn put_anomalies(out: &mut [u8], at: usize, n: u32, list: &[SignalAnomaly]) -> usize
+    requires { at + 55 * length list.now ≤ length out.old }
+    ensures { Put out.old at (anomaly_lines n list.now) result out.new }
 {
     let mut end = at;
-    for x in &list[..count] {
+    for x in list {
         end = anomaly_line(n, *x).write(out, end);
     }
     end

@@ -74,6 +74,7 @@ fn answer(log: Log, used: usize, end: usize, status: Status) -> Step
 }
 
 // The answer after a sound record of `used` bytes, with the engine that it left.
+// No type of log has the bound: `advance` takes any count, and the look at the front stops a full one (15).
 fn sound(log: Log, engine: SignalIdsEngine, used: usize, end: usize) -> Step
     requires { log.count < 4294967295 }
     ensures { result ≡ sound_of log engine used end }
@@ -93,6 +94,7 @@ fn data_size(header: FrameHeader) -> usize
 }
 
 // The stopping number where the input ends with so many bytes that are no whole record.
+// A number and no `Stop`: 0 is the end itself, and 3 comes from the table (`end_line`).
 fn last_number(left: usize) -> u8
     ensures { result ≡ last_number left }
 {
@@ -100,6 +102,7 @@ fn last_number(left: usize) -> u8
 }
 
 // The log stops, `used` bytes having been taken before.
+// Buffer and place go side by side: the promises (`Does`, `Put`) are of the buffer as it was lent, which a struct would hide.
 fn on_stop(log: Log, used: usize, k: u8, out: &mut [u8], at: usize) -> Step
     requires { at + 26 ≤ length out.old }
     ensures { Does out.old at (after used (stop_step log k)) result out.new }
@@ -135,19 +138,19 @@ fn on_called(
     log: Log,
     engine: SignalIdsEngine,
     answer: Answer,
-    letter: &[u8],
+    letter: &[u8; 2],
     used: usize,
     out: &mut [u8],
     at: usize,
 ) -> Step
-    requires { (log.count < 4294967295) × (length letter.now ≡ 2) × (at + 32 ≤ length out.old) }
+    requires { (log.count < 4294967295) × (at + 32 ≤ length out.old) }
     ensures { Does out.old at (called_step log letter.now used engine answer) result out.new }
 {
     let end = put_answer(out, at, letter, log.count + 1, answer);
     sound(log, engine, used, end)
 }
 
-// What a record asks of the table is done, and answered.
+// What a record asks of the table is done, and answered. The sizes are numbers, as `item_step` has them.
 fn on_request(log: Log, q: Request, out: &mut [u8], at: usize) -> Step
     requires { (log.count < 4294967295) × (at + 32 ≤ length out.old) }
     ensures { Does out.old at (request_step log (request_means q)) result out.new }
@@ -187,42 +190,36 @@ fn on_request(log: Log, q: Request, out: &mut [u8], at: usize) -> Step
 pub fn advance(log: Log, s: &[u8], ended: bool, out: &mut [u8]) -> Step
     ensures { Does out.old 0 (advance_of (length out.old) ended log s.now) result out.new }
 {
-    let mut engine = log.engine;
-    let mut count = log.count;
+    let mut log = log;
     let mut used = 0;
     let mut end = 0;
+    // Each turn takes one record, of its own length.
     while out.len() - end >= ROOM {
-        match item_at_front(count, &s[used..]) {
-            Ok(None) => {
-                return on_wait(Log { count, engine }, used, s.len() - used, ended, out, end);
-            }
-            Err(stop) => return on_stop(Log { count, engine }, used, u8::from(stop), out, end),
+        match item_at_front(log.count, &s[used..]) {
+            Ok(None) => return on_wait(log, used, s.len() - used, ended, out, end),
+            Err(stop) => return on_stop(log, used, u8::from(stop), out, end),
             Ok(Some(Item::Call(q))) => {
-                let r = on_request(Log { count, engine }, q, out, end);
+                let r = on_request(log, q, out, end);
+                log = r.log;
                 used += r.used;
                 end = r.end;
                 if !r.status.goes_on() {
-                    return answer(r.log, used, end, r.status);
+                    return answer(log, used, end, r.status);
                 }
-                engine = r.log.engine;
-                count = r.log.count;
             }
             Ok(Some(Item::Frame(header))) => {
                 let at = used + 8;
                 let behind = at + data_size(header);
-                let done = process_lent_frame(engine, header, &s[at..behind]);
-                engine = done.engine;
-                count += 1;
+                let done = process_lent_frame(log.engine, header, &s[at..behind]);
+                log.engine = done.engine;
+                log.count += 1;
                 used = behind;
-                end = put_anomalies(
-                    out,
-                    end,
-                    count,
-                    done.result.anomalies,
-                    done.result.anomaly_count,
-                );
+                let count = done.result.anomaly_count;
+                // A copy of the list: lent from the answer itself it has the engine copied too.
+                let listed = done.result.anomalies;
+                end = put_anomalies(out, end, log.count, &listed[..count]);
             }
         }
     }
-    answer(Log { count, engine }, used, end, Status::Full)
+    answer(log, used, end, Status::Full)
 }

@@ -14,6 +14,8 @@ use Rattle.conversion.proofs.nearest_i64.Reads as nearest-i64
 use Rattle.conversion.proofs.SignalDefinitionDefault.default.Reads as default
 use Rattle.conversion.proofs.extract_signal_raw.Reads as extract-signal-raw
 use Rattle.conversion.proofs.extract_signal.Reads as extract-signal
+use Rattle.conversion.proofs.ExtractErrorFromRawError.from.Reads as extract-error-from
+use Rattle.conversion.proofs.U8FromExtractError.from.Reads as number
 
 -- the meaning of an answer tells all answers apart
 abbrev extracted_for : Measured → Result Float ExtractError
@@ -52,3 +54,9 @@ extract_signal_raw_determined κs a r q s t p p' = raw_settled r q (p ∙ sym p'
 
 pub extract_signal_determined : Determines extract-signal.Learnt
 extract_signal_determined κs a r q s t p p' = extracted_settled r q (p ∙ sym p')
+
+pub extract_error_from_determined : Determines extract-error-from.Learnt
+extract_error_from_determined κs a r q s t p p' = p ∙ sym p'
+
+pub number_determined : Determines number.Learnt
+number_determined κs a r q s t p p' = p ∙ sym p'

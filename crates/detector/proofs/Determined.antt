@@ -22,6 +22,7 @@ use Rattle.detector.proofs.EwmaDetector.mean.Reads as mean
 use Rattle.detector.proofs.EwmaDetector.variance.Reads as variance
 use Rattle.detector.proofs.EwmaDetector.count.Reads as count
 use Rattle.detector.proofs.update_in_place.Reads as update-in-place
+use Rattle.detector.proofs.U8FromDetectorError.from.Reads as number
 
 -- ---- the meaning of an answer tells all answers apart
 
@@ -102,3 +103,6 @@ variance_determined κs a r q s t p p' = p ∙ sym p'
 
 pub count_determined : Determines count.Learnt
 count_determined κs a r q s t p p' = p ∙ sym p'
+
+pub number_determined : Determines number.Learnt
+number_determined κs a r q s t p p' = p ∙ sym p'

@@ -1,4 +1,4 @@
--- The program's turns are few: at most three for each byte that was read, and one. So no log uses up the number that they are counted down from. Assumes nothing.
+-- The program's turns are few: at most three for each byte that was read, and one. So no log uses up the number that they are counted up to. Assumes nothing.
 use mathlib.Core.Path.{◌≡◌, refl, sym, ◌∙◌, ap}
 use mathlib.Core.Bool.{Bool, true, false, cond, not, true≢false}
 use mathlib.Core.List.{List, [], ◌∷◌, ◌++◌, append-nil}

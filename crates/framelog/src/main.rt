@@ -1,9 +1,8 @@
 // Reads a log from standard input, and writes its lines to standard output.
 #![tactic(auto)]
 
-ghost use Rattle.std.specs.Prelude.{◌≡◌, ◌-◌, ◌≤◌, length, take, drop};
+ghost use Rattle.std.specs.Prelude.{◌≡◌, ◌≤◌, length, take};
 ghost use Rattle.std.specs.Result.{result_ok};
-ghost use Rattle.std.proofs.lemmas.List.Edits.{sets};
 ghost use Rattle.can_log.specs.Pieces.{Does, advance_of};
 ghost use Rattle.can_log.specs.Output.{status_means};
 ghost use Rattle.framelog.specs.Program.{got_of, Read, remaining, failed_of, after_write, Prints, Turn, Ran};
@@ -20,6 +19,7 @@ struct Streams {
     errors: Stderr,
 }
 
+// Three names and no Option in a Result: a read of no room brings 0 bytes and is no end (`Read`, `got_of`).
 #[derive(Drop)]
 enum Got {
     Bytes(usize),
@@ -27,6 +27,7 @@ enum Got {
     Failed,
 }
 
+// Three flags and no enum: `next_of`, `failed_of` and `Turn` speak of each.
 #[derive(Drop)]
 struct State {
     log: Log,
@@ -39,6 +40,7 @@ struct State {
 }
 
 // The records in the first `have` bytes: their lines go into `out`, and the bytes that are left move to the front.
+// The buffer and how much of it is full go apart: `Read`, `Prints` and `Turn` are of both, before and after.
 fn work(log: Log, have: usize, ended: bool, input: &mut [u8], out: &mut [u8]) -> Step
     requires { have ≤ length input.old }
     ensures does { Does out.old 0 (advance_of (length out.old) ended log (take have input.old)) result out.new }
@@ -164,7 +166,7 @@ fn turn(streams: Streams, st: State, input: &mut [u8], out: &mut [u8]) -> State
     }
 }
 
-// A proved loop has to end, and nothing says that the input does: the turns are counted down from a number that no run uses up.
+// A proved loop has to end, and nothing says that the input does: the turns are counted up to a number that no run comes to.
 fn run(streams: Streams, input: &mut [u8], out: &mut [u8])
     ensures { Ran input.old out.old input.new out.new }
 {

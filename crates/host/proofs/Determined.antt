@@ -7,7 +7,6 @@ use Rattle.host.proofs.detector_recalibrate.Reads as detector-recalibrate
 use Rattle.host.proofs.detector_new.Reads as detector-new
 use Rattle.host.proofs.detector_with_options.Reads as detector-with-options
 use Rattle.host.proofs.SampleAnswerFromVerdict.from.Reads as sample-answer-from
-use Rattle.host.proofs.MadeDetectorFromResultEwmaDetectorDetectorError.from.Reads as made-detector-from
 
 pub detector_new_determined : Determines detector-new.Learnt
 detector_new_determined κs a r q s t p p' = p ∙ sym p'
@@ -26,6 +25,3 @@ detector_recalibrate_determined κs a r q s t p p' = (refl, p ∙ sym p')
 
 pub sample_answer_from_determined : Determines sample-answer-from.Learnt
 sample_answer_from_determined κs a r q s t p p' = p ∙ sym p'
-
-pub made_detector_from_determined : Determines made-detector-from.Learnt
-made_detector_from_determined κs a r q s t p p' = p ∙ sym p'

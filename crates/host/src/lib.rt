@@ -57,20 +57,18 @@ impl From<Verdict> for SampleAnswer {
 }
 
 // A detector as it was made, or `idle` beside the refusal's number.
-impl From<Result<EwmaDetector, DetectorError>> for MadeDetector {
-    ghost from_gives = { λ made answer. answer ≡ handed idle (made_means made) };
-
-    fn from(made: Result<EwmaDetector, DetectorError>) -> MadeDetector {
-        match made {
-            Ok(detector) => MadeDetector {
-                refusal: 0,
-                detector,
-            },
-            Err(error) => MadeDetector {
-                refusal: error as u32,
-                detector: EwmaDetector::idle(),
-            },
-        }
+fn handed_over(made: Result<EwmaDetector, DetectorError>) -> MadeDetector
+    ensures { result ≡ handed idle (made_means made) }
+{
+    match made {
+        Ok(detector) => MadeDetector {
+            refusal: 0,
+            detector,
+        },
+        Err(error) => MadeDetector {
+            refusal: u32::from(u8::from(error)),
+            detector: EwmaDetector::idle(),
+        },
     }
 }
 
@@ -79,7 +77,7 @@ impl From<Result<EwmaDetector, DetectorError>> for MadeDetector {
 pub extern "C" fn detector_new(alpha: f32, z_threshold: f32) -> MadeDetector
     ensures { result ≡ handed idle (made_of alpha z_threshold 10 5) }
 {
-    EwmaDetector::new(alpha, z_threshold).into()
+    handed_over(EwmaDetector::new(alpha, z_threshold))
 }
 
 // `EwmaDetector::with_options` for a host.
@@ -92,7 +90,7 @@ pub extern "C" fn detector_with_options(
 ) -> MadeDetector
     ensures { result ≡ handed idle (made_of alpha z_threshold freeze_duration warmup_count) }
 {
-    EwmaDetector::with_options(alpha, z_threshold, freeze_duration, warmup_count).into()
+    handed_over(EwmaDetector::with_options(alpha, z_threshold, freeze_duration, warmup_count))
 }
 
 // `update` for a host: one sample changes the lent detector in place.
@@ -114,7 +112,7 @@ pub extern "C" fn detector_set_freeze_duration(detector: &mut EwmaDetector, dura
             *detector = next;
             0
         }
-        Err(error) => error as u32,
+        Err(error) => u32::from(u8::from(error)),
     }
 }
 

@@ -25,6 +25,7 @@ use Rattle.models.proofs.MarkovDetector.observe_transition.Reads as observe-tran
 use Rattle.models.proofs.MarkovDetector.score_transition.Reads as score-transition
 use Rattle.models.proofs.MarkovDetector.reset.Reads as states_reset
 use Rattle.models.proofs.MarkovDetector.saturated.Reads as states-saturated
+use Rattle.models.proofs.U8FromMisfit.from.Reads as number
 
 -- ---- the meaning of an answer tells all answers apart
 
@@ -107,3 +108,6 @@ states_reset_determined κs a r q s t p p' = markov_settled r q s.1.0.now t.1.0.
 
 pub states_saturated_determined : Determines states-saturated.Learnt
 states_saturated_determined κs a r q s t p p' = p ∙ sym p'
+
+pub number_determined : Determines number.Learnt
+number_determined κs a r q s t p p' = p ∙ sym p'

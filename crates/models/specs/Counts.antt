@@ -55,6 +55,10 @@ IsPart p = T (le (of_bits binary32 0) p) × T (le p (of_bits binary32 0x3F80_000
 abbrev pub misfit : Misfit
 misfit = record {}
 
+-- Its number.
+abbrev pub misfit_number : Misfit → ℕ
+misfit_number m = 18
+
 -- A call that changes a model is done, or is refused by 18.
 abbrev pub answer_means : Result (Unit {0}) Misfit → ℕ
 answer_means (Ok _) = 0

@@ -6,8 +6,8 @@
 ghost use Rattle.std.specs.Prelude.{◌≡◌, IfOk, is_ok, ◌*◌, ◌%◌, ◌^◌, ◌≤◌, ◌<◌, pos, length};
 ghost use Rattle.std.specs.Float.{binary32};
 ghost use Rattle.std.specs.Float.Ieee.{of_int};
-ghost use Rattle.models.specs.Counts.{sized, index_of, both_more, ratio, done, refused, probability_means};
-ghost use Rattle.models.specs.Histogram.{bins_fit, none_seen, word_of, has_seen, marked, fresh, bin_ratio, anomalous, histogram_means, new_bins, observed, reset_bins, probability_of, judged, judgement_means, judged_of};
+ghost use Rattle.models.specs.Counts.{sized, index_of, both_more, ratio, misfit_number, done, refused, probability_means};
+ghost use Rattle.models.specs.Histogram.{bins_fit, word_of, has_seen, marked, fresh, anomalous, histogram_means, new_bins, observed, reset_bins, probability_of, judgement_means, judged_of};
 ghost use Rattle.models.specs.Markov.{states_fit, cell_of, fresh_states, markov_means, new_states, moved, reset_states, score_of};
 
 use conversion::nearest_u64;
@@ -48,7 +48,16 @@ pub struct MarkovDetector {
 #[derive(Clone, Copy, Debug, PartialEq, Eq)]
 pub struct Misfit;
 
+impl From<Misfit> for u8 {
+    ghost from_gives = { λ e n. n ≡ misfit_number e };
+
+    fn from(_misfit: Misfit) -> u8 {
+        18
+    }
+}
+
 // What a call that changes a model returns: its answer, and the model after it.
+// Both, and no Result of the model alone: a refusal returns one too (`histogram_means`, `markov_means`).
 #[derive(Clone, Copy)]
 pub struct Changed<M> {
     pub answer: Result<(), Misfit>,
@@ -97,7 +106,8 @@ fn count_one(count: u64, total: u64, saturated: bool) -> Grown
     }
 }
 
-// The index of a byte, which is the byte modulo the size: by a mask where the size is a power of two. Both are of 8 bits, which is faster.
+// The index of a byte, which is the byte modulo the size: by a mask where the size is a power of two.
+// The mask and the remainder are of 8 bits, which was faster when it was timed.
 fn index(value: u8, size: usize) -> usize
     requires { (1 ≤ size) × (size ≤ 256) }
     ensures { (result ≡ index_of size value) × (result < size) }
@@ -116,7 +126,7 @@ fn cell_index(from: u8, to: u8, size: usize) -> usize
     index(from, size) * size + index(to, size)
 }
 
-// The f32 nearest to a count. Up to `EXACT` the processor's own conversion loses nothing, and is faster.
+// The f32 nearest to a count. Up to `EXACT` the processor's own conversion loses nothing, and was faster when it was timed.
 fn f32_of_count(n: u64) -> f32
     ensures { result ≡ of_int binary32 (pos n) }
 {
@@ -145,7 +155,7 @@ fn bit(value: u8) -> u64
 }
 
 impl Seen {
-    // The word that a byte's bit is in, by three choices between two words: a `match` branches, and is twice as slow where bytes come in any order.
+    // The word that a byte's bit is in, by three choices between two words: a `match` branches, and was twice as slow when it was timed with bytes in any order.
     fn word(self, value: u8) -> u64
         ensures { result ≡ word_of self value }
     {
@@ -271,21 +281,12 @@ impl HistogramDetector {
         })
     }
 
-    // The part of all observations that a byte's bin has.
-    fn bin_ratio(self, counts: &[u64], value: u8) -> f32
-        requires { (1 ≤ self.size) × (self.size ≤ 256) × (length counts.now ≡ self.size) }
-        ensures { result ≡ bin_ratio self counts.now value }
-    {
-        let i = index(value, self.size);
-        ratio_of(counts[i], self.total)
-    }
-
-    // The same, or refusal 18.
+    // The part of all observations that a byte's bin has, or refusal 18.
     pub fn probability(self, counts: &[u64], value: u8) -> Result<f32, Misfit>
         ensures { probability_means result ≡ probability_of self counts.now value }
     {
         self.fits(counts)?;
-        Ok(self.bin_ratio(counts, value))
+        Ok(ratio_of(counts[index(value, self.size)], self.total))
     }
 
     // Whether a byte is anomalous: not where the model is saturated or empty, and else where it was never seen or its bin is below the threshold.
@@ -297,16 +298,7 @@ impl HistogramDetector {
         let known = self.seen.has(value);
         let i = index(value, self.size);
         let count = counts[i];
-        if self.saturated {
-            return false;
-        }
-        if self.total == 0 {
-            return false;
-        }
-        if !known {
-            return true;
-        }
-        ratio_of(count, self.total) < threshold
+        !self.saturated && self.total != 0 && (!known || ratio_of(count, self.total) < threshold)
     }
 
     // The same, or refusal 18.

@@ -1,19 +1,54 @@
-// Calls on the model of transitions that the script keeps, and on its counts: one buffer of transitions, and one of row totals.
-use crate::modelling::{lent, place_count, put_answer, put_probability, summed};
+// Calls on the model of transitions that the script keeps, and on its two buffers of counts.
+// Apart from the histogram: a call is lent two buffers here.
+use crate::modelling::{lent, place_count, summed};
 use crate::output::Output;
 use crate::script::Fields;
-use models::{MarkovDetector, Misfit};
+use models::{Changed, MarkovDetector};
 
-// How many transitions there are, more than a model has; as many row totals follow as there are up to `COUNTS`.
-const TRANSITIONS: usize = 4200;
+// Three calls place a model or a count, and answer nothing.
+#[derive(Clone, Copy)]
+pub enum Call {
+    Place,
+    PlaceTransition,
+    PlaceRowTotal,
+    Answered(Answered),
+}
 
-const COUNTS: usize = 4300;
+#[derive(Clone, Copy)]
+pub enum Answered {
+    New,
+    ObserveTransition,
+    Reset,
+    ScoreTransition,
+    Saturated,
+    Counts,
+}
 
-// The model, and its counts: the transitions, and behind them the row totals.
+impl TryFrom<u8> for Call {
+    type Error = ();
+
+    fn try_from(letter: u8) -> Result<Call, ()> {
+        match letter {
+            b'W' => Ok(Call::Place),
+            b'T' => Ok(Call::PlaceTransition),
+            b'U' => Ok(Call::PlaceRowTotal),
+            b'A' => Ok(Call::Answered(Answered::New)),
+            b'B' => Ok(Call::Answered(Answered::ObserveTransition)),
+            b'X' => Ok(Call::Answered(Answered::Reset)),
+            b'Q' => Ok(Call::Answered(Answered::ScoreTransition)),
+            b'Y' => Ok(Call::Answered(Answered::Saturated)),
+            b'K' => Ok(Call::Answered(Answered::Counts)),
+            _ => Err(()),
+        }
+    }
+}
+
+// The model, and its counts: more transitions and more row totals than a model has.
 #[derive(Drop)]
 pub struct Markov {
     model: MarkovDetector,
-    counts: [u64; COUNTS],
+    transition: [u64; 4200],
+    row_totals: [u64; 100],
 }
 
 impl Markov {
@@ -24,42 +59,21 @@ impl Markov {
                 size: 0,
                 saturated: false,
             },
-            counts: [0; COUNTS],
+            transition: [0; 4200],
+            row_totals: [0; 100],
         }
     }
 
     // What a call that changes the model answered, the model then, and the sum over all counts of both buffers then.
-    fn told(&self, answer: Result<(), Misfit>, out: &mut Output) {
-        put_answer(answer, out);
-        let m = self.model;
-        out.fields(
-            &[m.size as u64, u64::from(m.saturated), summed(&self.counts)],
-            16,
-        );
+    fn told(&mut self, changed: Changed<MarkovDetector>, out: &mut Output) {
+        let m = changed.model;
+        self.model = m;
+        out.done(changed.answer);
+        let sum = summed(summed(0, &self.transition), &self.row_totals);
+        out.fields(&[m.size as u64, u64::from(m.saturated), sum], 16);
     }
 
-    // `A`, `B` and `X`: a fresh model, one state followed by another, and nothing observed.
-    fn change(&mut self, letter: u8, fields: &mut Fields, out: &mut Output) {
-        let size = if letter == b'A' { fields.read() } else { 0 };
-        let model = self.model;
-        let (transition, row_totals) = self.counts.split_at_mut(TRANSITIONS);
-        let n = lent(fields.read(), transition);
-        let k = lent(fields.read(), row_totals);
-        let cells = &mut transition[..n];
-        let rows = &mut row_totals[..k];
-        let changed = match letter {
-            b'A' => MarkovDetector::new(size, cells, rows),
-            b'B' => {
-                let from: u8 = fields.read();
-                model.observe_transition(cells, rows, from, fields.read())
-            }
-            _ => model.reset(cells, rows),
-        };
-        self.model = changed.model;
-        self.told(changed.answer, out);
-    }
-
-    // `W`: a model of any fields.
+    // A model of any fields.
     fn place(&mut self, fields: &mut Fields) {
         self.model = MarkovDetector {
             size: fields.read(),
@@ -67,39 +81,54 @@ impl Markov {
         };
     }
 
-    // `Q` and `K`: the part that a transition has of its row, and the first counts of both buffers.
-    fn ask(&self, letter: u8, fields: &mut Fields, out: &mut Output) {
-        let (transition, row_totals) = self.counts.split_at(TRANSITIONS);
-        let n = lent(fields.read(), transition);
-        let k = lent(fields.read(), row_totals);
-        let cells = &transition[..n];
-        let rows = &row_totals[..k];
-        if letter == b'Q' {
-            let from: u8 = fields.read();
-            put_probability(
-                self.model
-                    .score_transition(cells, rows, from, fields.read()),
-                out,
-            );
-        } else {
-            out.fields(cells, 16);
-            out.fields(rows, 16);
+    fn answered(&mut self, call: Answered, fields: &mut Fields, out: &mut Output) {
+        let model = self.model;
+        match call {
+            Answered::New => {
+                let size: usize = fields.read();
+                let cells = lent(fields, &mut self.transition);
+                let rows = lent(fields, &mut self.row_totals);
+                let changed = MarkovDetector::new(size, cells, rows);
+                self.told(changed, out);
+            }
+            Answered::ObserveTransition => {
+                let cells = lent(fields, &mut self.transition);
+                let rows = lent(fields, &mut self.row_totals);
+                let from: u8 = fields.read();
+                let changed = model.observe_transition(cells, rows, from, fields.read());
+                self.told(changed, out);
+            }
+            Answered::Reset => {
+                let cells = lent(fields, &mut self.transition);
+                let rows = lent(fields, &mut self.row_totals);
+                let changed = model.reset(cells, rows);
+                self.told(changed, out);
+            }
+            Answered::ScoreTransition => {
+                let cells = lent(fields, &mut self.transition);
+                let rows = lent(fields, &mut self.row_totals);
+                let from: u8 = fields.read();
+                out.told(model.score_transition(cells, rows, from, fields.read()));
+            }
+            Answered::Saturated => out.flag(model.saturated()),
+            Answered::Counts => {
+                out.fields(lent(fields, &mut self.transition), 16);
+                out.fields(lent(fields, &mut self.row_totals), 16);
+            }
         }
     }
 
-    // The answer to a call; `Y` is the flag. One that places a model or a count has none.
-    pub fn answer(&mut self, letter: u8, fields: &mut Fields, out: &mut Output) {
-        match letter {
-            b'W' => return self.place(fields),
-            b'T' => return place_count(fields, &mut self.counts[..TRANSITIONS]),
-            b'U' => return place_count(fields, &mut self.counts[TRANSITIONS..]),
-            _ => out.byte(letter),
+    // The answer to a call.
+    pub fn answer(&mut self, call: Call, fields: &mut Fields, out: &mut Output) {
+        match call {
+            Call::Place => self.place(fields),
+            Call::PlaceTransition => place_count(fields, &mut self.transition),
+            Call::PlaceRowTotal => place_count(fields, &mut self.row_totals),
+            Call::Answered(call) => {
+                out.byte(fields.letter);
+                self.answered(call, fields, out);
+                out.byte(b'\n');
+            }
         }
-        match letter {
-            b'A' | b'B' | b'X' => self.change(letter, fields, out),
-            b'Y' => out.field(u64::from(self.model.saturated()), 1),
-            _ => self.ask(letter, fields, out),
-        }
-        out.byte(b'\n');
     }
 }

@@ -4,19 +4,56 @@ use crate::script::Fields;
 use conversion::bits_of_f32;
 use detector::{AnomalyScore, DetectorError, EwmaDetector, Updated, Verdict, update_in_place};
 
-// The number of a refusal, 0 where there is none, and the detector then.
-fn state(d: EwmaDetector, number: u8, out: &mut Output) {
-    out.field(u64::from(number), 1);
-    out.detector(d);
+// Two calls make a detector, and the others act on the one that there is.
+#[derive(Clone, Copy)]
+pub enum Call {
+    New,
+    WithOptions,
+    OnMade(OnMade),
 }
 
-// `a` and `o`: a fresh detector, or an idle one beside the refusal.
-fn made(made: Result<EwmaDetector, DetectorError>, out: &mut Output) -> Option<EwmaDetector> {
-    match made {
-        Ok(d) => state(d, 0, out),
-        Err(error) => state(EwmaDetector::idle(), error as u8, out),
+#[derive(Clone, Copy)]
+pub enum OnMade {
+    Update,
+    UpdateInPlace,
+    Tell,
+    SetFreezeDuration,
+    Recalibrate,
+}
+
+impl TryFrom<u8> for Call {
+    type Error = ();
+
+    fn try_from(letter: u8) -> Result<Call, ()> {
+        match letter {
+            b'a' => Ok(Call::New),
+            b'o' => Ok(Call::WithOptions),
+            b'u' => Ok(Call::OnMade(OnMade::Update)),
+            b't' => Ok(Call::OnMade(OnMade::UpdateInPlace)),
+            b'k' => Ok(Call::OnMade(OnMade::Tell)),
+            b'z' => Ok(Call::OnMade(OnMade::SetFreezeDuration)),
+            b'c' => Ok(Call::OnMade(OnMade::Recalibrate)),
+            _ => Err(()),
+        }
     }
-    made.ok()
+}
+
+// 0 or the refusal's number, and the detector then, which is the other one beside a refusal.
+fn settled(
+    answer: Result<EwmaDetector, DetectorError>,
+    other: EwmaDetector,
+    out: &mut Output,
+) -> EwmaDetector {
+    let d = answer.unwrap_or(other);
+    out.done(answer.map(|_| ()));
+    out.detector(d);
+    d
+}
+
+// A fresh detector, or none where it is refused.
+fn made(answer: Result<EwmaDetector, DetectorError>, out: &mut Output) -> Option<EwmaDetector> {
+    settled(answer, EwmaDetector::idle(), out);
+    answer.ok()
 }
 
 // What the Rust answers: no score for what was ignored and for the first sample, and 0 while warming.
@@ -57,64 +94,45 @@ fn sampled(updated: Updated, out: &mut Output) -> EwmaDetector {
     updated.detector
 }
 
-// `t`: one sample on a detector that is lent for it.
+// One sample on a detector that is lent for it.
 fn lent(mut detector: EwmaDetector, value: f32) -> Updated {
     let verdict = update_in_place(&mut detector, value);
     Updated { detector, verdict }
 }
 
-// `k`: what the detector tells of itself.
-fn told(d: EwmaDetector, out: &mut Output) {
+// What the detector tells of itself.
+fn told(d: EwmaDetector, out: &mut Output) -> EwmaDetector {
     out.float(d.mean());
     out.float(d.variance());
     out.field(u64::from(d.count()), 8);
+    d
 }
 
-// `z`: another freeze duration, or the detector as it was beside the refusal.
-fn reset(d: EwmaDetector, duration: u32, out: &mut Output) -> EwmaDetector {
-    match d.set_freeze_duration(duration) {
-        Ok(next) => {
-            state(next, 0, out);
-            next
-        }
-        Err(error) => {
-            state(d, error as u8, out);
-            d
-        }
-    }
-}
-
-// The answer to a call on a detector: the detector then. `c` is a new baseline.
-fn on_made(d: EwmaDetector, letter: u8, fields: &mut Fields, out: &mut Output) -> EwmaDetector {
-    match letter {
-        b'u' => sampled(d.update(fields.read()), out),
-        b't' => sampled(lent(d, fields.read()), out),
-        b'k' => {
-            told(d, out);
-            d
-        }
-        b'z' => reset(d, fields.read(), out),
-        _ => {
-            let next = d.recalibrate(fields.read());
-            state(next, 0, out);
-            next
-        }
+// The answer to a call on a detector: the detector then.
+fn on_made(d: EwmaDetector, call: OnMade, fields: &mut Fields, out: &mut Output) -> EwmaDetector {
+    match call {
+        OnMade::Update => sampled(d.update(fields.read()), out),
+        OnMade::UpdateInPlace => sampled(lent(d, fields.read()), out),
+        OnMade::Tell => told(d, out),
+        OnMade::SetFreezeDuration => settled(d.set_freeze_duration(fields.read()), d, out),
+        OnMade::Recalibrate => settled(Ok(d.recalibrate(fields.read())), d, out),
     }
 }
 
 // The answer to a call: the detector then, if there is one. A call on one that is not there is left out.
 pub fn answer(
     detector: Option<EwmaDetector>,
-    letter: u8,
+    call: Call,
     fields: &mut Fields,
     out: &mut Output,
 ) -> Option<EwmaDetector> {
-    let next = match letter {
-        b'a' => {
+    let letter = fields.letter;
+    let next = match call {
+        Call::New => {
             out.byte(letter);
             made(EwmaDetector::new(fields.read(), fields.read()), out)
         }
-        b'o' => {
+        Call::WithOptions => {
             out.byte(letter);
             made(
                 EwmaDetector::with_options(
@@ -126,10 +144,10 @@ pub fn answer(
                 out,
             )
         }
-        _ => {
+        Call::OnMade(call) => {
             let d = detector?;
             out.byte(letter);
-            Some(on_made(d, letter, fields, out))
+            Some(on_made(d, call, fields, out))
         }
     };
     out.byte(b'\n');

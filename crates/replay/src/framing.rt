@@ -8,6 +8,14 @@ use frames::{
 };
 use table::SignalIdsEngine;
 
+// A frame, one whose data bytes are lent, and a raw frame.
+#[derive(Clone, Copy)]
+pub enum Call {
+    Frame,
+    LentFrame,
+    RawFrame,
+}
+
 // The count, and all eight places.
 fn anomalies(seen: &SignalIdsResult, out: &mut Output) {
     out.field(seen.anomaly_count as u64, 2);
@@ -22,7 +30,7 @@ fn anomalies(seen: &SignalIdsResult, out: &mut Output) {
 fn outcome_words(outcome: Outcome) -> [u64; 4] {
     match outcome {
         Outcome::PassedOver => [0; 4],
-        Outcome::NoValue(error) => [u64::from(error as u8), 0, 0, 0],
+        Outcome::NoValue(error) => [u64::from(u8::from(error)), 0, 0, 0],
         Outcome::First(v) => [2, u64::from(bits_of_f32(v)), 0, 0],
         Outcome::Warming(v) => [3, u64::from(bits_of_f32(v)), 0, 0],
         Outcome::Scored(v, z, flag) => [
@@ -66,40 +74,43 @@ fn header(fields: &mut Fields) -> FrameHeader {
     }
 }
 
-// The data of a frame: the first 64 bytes, 0 where there are fewer.
-fn frame_data(bytes: &[u8]) -> [u8; 64] {
+// A frame with that header: the first 64 bytes are its data, and zeros follow where there are fewer.
+// Field by field: no call makes a frame of a header and bytes.
+fn frame(h: FrameHeader, bytes: &[u8]) -> CanFrame {
     let mut data = [0u8; 64];
     let n = bytes.len().min(64);
     data[..n].copy_from_slice(&bytes[..n]);
-    data
-}
-
-// `f`, `F` and `g`: a frame, one whose data bytes are lent, and a raw frame.
-pub fn answer(
-    e: SignalIdsEngine,
-    letter: u8,
-    fields: &mut Fields,
-    data: &mut [u8],
-    out: &mut Output,
-) -> SignalIdsEngine {
-    if letter == b'g' {
-        let id: u32 = fields.read();
-        let data_len: usize = fields.read();
-        let n = fields.bytes(data);
-        return processed(process_raw_frame(e, id, &data[..n], data_len), out);
-    }
-    let h = header(fields);
-    let n = fields.bytes(data);
-    if letter == b'F' {
-        return processed(process_lent_frame(e, h, &data[..n]), out);
-    }
-    let frame = CanFrame {
+    CanFrame {
         id: h.id,
         is_extended: h.is_extended,
         is_remote: h.is_remote,
         is_fd: h.is_fd,
         length: h.length,
-        data: frame_data(&data[..n]),
+        data,
+    }
+}
+
+// The answer to a frame: the engine then.
+pub fn answer(
+    e: SignalIdsEngine,
+    call: Call,
+    fields: &mut Fields,
+    out: &mut Output,
+) -> SignalIdsEngine {
+    let done = match call {
+        Call::Frame => {
+            let h = header(fields);
+            process_frame(e, frame(h, fields.bytes()))
+        }
+        Call::LentFrame => {
+            let h = header(fields);
+            process_lent_frame(e, h, fields.bytes())
+        }
+        Call::RawFrame => {
+            let id: u32 = fields.read();
+            let data_len: usize = fields.read();
+            process_raw_frame(e, id, fields.bytes(), data_len)
+        }
     };
-    processed(process_frame(e, frame), out)
+    processed(done, out)
 }

@@ -46,37 +46,22 @@ impl Machine {
         }
     }
 
-    // The answer to one line.
+    // The answer to one line. Any other letter is left out.
     fn answer(&mut self, line: &[u8]) {
-        let Some(letter) = line.first().copied() else {
+        let Some(mut fields) = Fields::of_line(line, &mut self.data) else {
             return;
         };
-        let mut fields = Fields::of_line(line);
-        match letter {
-            b'N' | b'O' | b'R' | b'V' | b'P' | b'J' | b'S' | b'C' | b'H' => {
-                self.histogram.answer(letter, &mut fields, &mut self.out);
-            }
-            b'A' | b'B' | b'X' | b'W' | b'Q' | b'Y' | b'T' | b'U' | b'K' => {
-                self.markov.answer(letter, &mut fields, &mut self.out);
-            }
-            b'e' | b'd' | b'b' | b'm' | b'y' | b'f' | b'F' | b'g' | b's' => {
-                self.engine = engine::answer(
-                    self.engine,
-                    letter,
-                    &mut fields,
-                    &mut self.data,
-                    &mut self.out,
-                );
-            }
-            b'a' | b'o' | b'u' | b't' | b'k' | b'z' | b'c' => {
-                self.detector = detecting::answer(
-                    self.detector,
-                    letter,
-                    &mut fields,
-                    &mut self.out,
-                );
-            }
-            _ => plain::answer(letter, &mut fields, &mut self.data, &mut self.out),
+        let letter = fields.letter;
+        if let Ok(call) = modelling::Call::try_from(letter) {
+            self.histogram.answer(call, &mut fields, &mut self.out);
+        } else if let Ok(call) = chaining::Call::try_from(letter) {
+            self.markov.answer(call, &mut fields, &mut self.out);
+        } else if let Ok(call) = engine::Call::try_from(letter) {
+            self.engine = engine::answer(self.engine, call, &mut fields, &mut self.out);
+        } else if let Ok(call) = detecting::Call::try_from(letter) {
+            self.detector = detecting::answer(self.detector, call, &mut fields, &mut self.out);
+        } else if let Ok(call) = plain::Call::try_from(letter) {
+            plain::answer(call, &mut fields, &mut self.out);
         }
     }
 
@@ -87,6 +72,7 @@ impl Machine {
     }
 
     // Every whole line of the bytes, and the last one without its end where the input has ended; and how many bytes were whole lines.
+    // By hand: with `split_inclusive` the proof of the loop did not close.
     fn lines(&mut self, rt: &impl Print, bytes: &[u8], ended: bool) -> usize
         ensures { result ≤ length bytes.now }
     {
@@ -103,6 +89,7 @@ impl Machine {
 }
 
 // Reads until the buffer is full, the input ends or a read fails, and answers how many bytes stand at its front.
+// By hand: `read_exact` answers no count where the input ends short.
 fn read_full(mut stdin: Stdin, buf: &mut [u8]) -> usize
     ensures { result ≤ length buf.new }
 {
@@ -118,6 +105,7 @@ fn read_full(mut stdin: Stdin, buf: &mut [u8]) -> usize
 
 // Reads and answers until the input ends. A line longer than the buffer ends the run. A proved loop has to end, and nothing says that
 // the input does: the turns are counted up to a number that no run reaches.
+// The first `have` bytes of `input` are not answered yet: no other function has the two.
 fn run(rt: &impl Print, stdin: Stdin, input: &mut [u8]) {
     let mut machine = Machine::new();
     let mut have = 0;

@@ -1,23 +1,56 @@
 // Calls on the histogram that the script keeps, and on its counts. The counts that a call is lent are the first ones of a buffer.
-ghost use Rattle.io.specs.Counts.{IsPrefixLen};
-
 use crate::output::Output;
 use crate::script::Fields;
-use models::{HistogramDetector, Misfit, Seen};
+use models::{Changed, HistogramDetector, Seen};
 
-// Document 02's number of the models' refusal.
-const MISFIT: u8 = 18;
-
-// How many counts a call is lent: as many as the script says, or all.
-pub fn lent(asked: usize, counts: &[u64]) -> usize
-    ensures { IsPrefixLen result counts.now }
-{
-    asked.min(counts.len())
+// Two calls place a model or a count, and answer nothing.
+#[derive(Clone, Copy)]
+pub enum Call {
+    Place,
+    PlaceBin,
+    Answered(Answered),
 }
 
-// A sum over all counts, mixed so that each bit and each place tells.
-pub fn summed(counts: &[u64]) -> u64 {
-    let mut sum: u64 = 0;
+#[derive(Clone, Copy)]
+pub enum Answered {
+    New,
+    Observe,
+    Reset,
+    Probability,
+    IsAnomalous,
+    Saturated,
+    Bins,
+}
+
+impl TryFrom<u8> for Call {
+    type Error = ();
+
+    fn try_from(letter: u8) -> Result<Call, ()> {
+        match letter {
+            b'V' => Ok(Call::Place),
+            b'C' => Ok(Call::PlaceBin),
+            b'N' => Ok(Call::Answered(Answered::New)),
+            b'O' => Ok(Call::Answered(Answered::Observe)),
+            b'R' => Ok(Call::Answered(Answered::Reset)),
+            b'P' => Ok(Call::Answered(Answered::Probability)),
+            b'J' => Ok(Call::Answered(Answered::IsAnomalous)),
+            b'S' => Ok(Call::Answered(Answered::Saturated)),
+            b'H' => Ok(Call::Answered(Answered::Bins)),
+            _ => Err(()),
+        }
+    }
+}
+
+// The counts that a call is lent: as many as the script says, or all.
+pub fn lent<'c>(fields: &mut Fields, counts: &'c mut [u64]) -> &'c mut [u64] {
+    let asked: usize = fields.read();
+    let n = asked.min(counts.len());
+    &mut counts[..n]
+}
+
+// A sum over all counts behind another sum, mixed so that each bit and each place tells.
+pub fn summed(before: u64, counts: &[u64]) -> u64 {
+    let mut sum = before;
     for count in counts {
         sum ^= sum << 13;
         sum ^= sum >> 7;
@@ -27,34 +60,12 @@ pub fn summed(counts: &[u64]) -> u64 {
     sum
 }
 
-// `C`, `T` and `U`: one count of a buffer becomes a number. A place outside of it is left out.
+// One count of a buffer becomes a number. A place outside of it is left out.
 pub fn place_count(fields: &mut Fields, counts: &mut [u64]) {
     let i: usize = fields.read();
     let value: u64 = fields.read();
     if i < counts.len() {
         counts[i] = value;
-    }
-}
-
-// 0, or the refusal.
-pub fn put_answer(answer: Result<(), Misfit>, out: &mut Output) {
-    match answer {
-        Ok(()) => out.field(0, 1),
-        Err(Misfit) => out.field(u64::from(MISFIT), 2),
-    }
-}
-
-pub fn put_probability(answer: Result<f32, Misfit>, out: &mut Output) {
-    match answer {
-        Ok(part) => out.float(part),
-        Err(Misfit) => out.refused(MISFIT),
-    }
-}
-
-fn put_judgement(answer: Result<bool, Misfit>, out: &mut Output) {
-    match answer {
-        Ok(anomalous) => out.field(u64::from(anomalous), 1),
-        Err(Misfit) => out.refused(MISFIT),
     }
 }
 
@@ -80,9 +91,10 @@ impl Histogram {
     }
 
     // What a call that changes the model answered, the model then, and the sum over all counts then.
-    fn told(&self, answer: Result<(), Misfit>, out: &mut Output) {
-        put_answer(answer, out);
-        let m = self.model;
+    fn told(&mut self, changed: Changed<HistogramDetector>, out: &mut Output) {
+        let m = changed.model;
+        self.model = m;
+        out.done(changed.answer);
         out.fields(
             &[
                 m.size as u64,
@@ -92,28 +104,13 @@ impl Histogram {
                 m.seen.from_128,
                 m.seen.from_192,
                 u64::from(m.saturated),
-                summed(&self.bins),
+                summed(0, &self.bins),
             ],
             16,
         );
     }
 
-    // `N`, `O` and `R`: a fresh model, one byte, and nothing observed.
-    fn change(&mut self, letter: u8, fields: &mut Fields, out: &mut Output) {
-        let size = if letter == b'N' { fields.read() } else { 0 };
-        let n = lent(fields.read(), &self.bins);
-        let model = self.model;
-        let bins = &mut self.bins[..n];
-        let changed = match letter {
-            b'N' => HistogramDetector::new(size, bins),
-            b'O' => model.observe(bins, fields.read()),
-            _ => model.reset(bins),
-        };
-        self.model = changed.model;
-        self.told(changed.answer, out);
-    }
-
-    // `V`: a model of any fields.
+    // A model of any fields.
     fn place(&mut self, fields: &mut Fields) {
         self.model = HistogramDetector {
             size: fields.read(),
@@ -128,32 +125,49 @@ impl Histogram {
         };
     }
 
-    // `P`, `J` and `H`: the part that a byte's bin has, whether a byte is anomalous, and the first counts.
-    fn ask(&self, letter: u8, fields: &mut Fields, out: &mut Output) {
-        let n = lent(fields.read(), &self.bins);
-        let bins = &self.bins[..n];
-        match letter {
-            b'P' => put_probability(self.model.probability(bins, fields.read()), out),
-            b'J' => {
-                let value: u8 = fields.read();
-                put_judgement(self.model.is_anomalous(bins, value, fields.read()), out);
+    fn answered(&mut self, call: Answered, fields: &mut Fields, out: &mut Output) {
+        let model = self.model;
+        match call {
+            Answered::New => {
+                let size: usize = fields.read();
+                let bins = lent(fields, &mut self.bins);
+                let changed = HistogramDetector::new(size, bins);
+                self.told(changed, out);
             }
-            _ => out.fields(bins, 16),
+            Answered::Observe => {
+                let bins = lent(fields, &mut self.bins);
+                let changed = model.observe(bins, fields.read());
+                self.told(changed, out);
+            }
+            Answered::Reset => {
+                let bins = lent(fields, &mut self.bins);
+                let changed = model.reset(bins);
+                self.told(changed, out);
+            }
+            Answered::Probability => {
+                let bins = lent(fields, &mut self.bins);
+                out.told(model.probability(bins, fields.read()));
+            }
+            Answered::IsAnomalous => {
+                let bins = lent(fields, &mut self.bins);
+                let value: u8 = fields.read();
+                out.told(model.is_anomalous(bins, value, fields.read()));
+            }
+            Answered::Saturated => out.flag(model.saturated()),
+            Answered::Bins => out.fields(lent(fields, &mut self.bins), 16),
         }
     }
 
-    // The answer to a call; `S` is the flag. One that places a model or a count has none.
-    pub fn answer(&mut self, letter: u8, fields: &mut Fields, out: &mut Output) {
-        match letter {
-            b'V' => return self.place(fields),
-            b'C' => return place_count(fields, &mut self.bins),
-            _ => out.byte(letter),
+    // The answer to a call.
+    pub fn answer(&mut self, call: Call, fields: &mut Fields, out: &mut Output) {
+        match call {
+            Call::Place => self.place(fields),
+            Call::PlaceBin => place_count(fields, &mut self.bins),
+            Call::Answered(call) => {
+                out.byte(fields.letter);
+                self.answered(call, fields, out);
+                out.byte(b'\n');
+            }
         }
-        match letter {
-            b'N' | b'O' | b'R' => self.change(letter, fields, out),
-            b'S' => out.field(u64::from(self.model.saturated()), 1),
-            _ => self.ask(letter, fields, out),
-        }
-        out.byte(b'\n');
     }
 }

@@ -1,21 +1,37 @@
 // Writing answers into a buffer, one behind the other. What does not fit is left out.
-ghost use Rattle.std.specs.Prelude.{◌≤◌, ◌<◌};
-
-use bits::{ByteOrder, RawError};
-use conversion::{Condition, ExtractError, SignalDefinition, bits_of_f32};
+use bits::ByteOrder;
+use conversion::{Condition, SignalDefinition, bits_of_f32};
 use detector::EwmaDetector;
 
 // The answers so far are the first `len` bytes.
+// An array and its length: what does not fit is left out, and nothing can fail.
 #[derive(Drop)]
 pub struct Output {
     buffer: [u8; 65536],
     len: usize,
 }
 
-fn glyph(d: u8) -> u8
-    requires { d < 16 }
-{
-    if d < 10 { b'0' + d } else { b'A' - 10 + d }
+// What a call that may refuse answers, in the form that it has in the output.
+pub trait Shown {
+    fn show(self, out: &mut Output);
+}
+
+impl Shown for u64 {
+    fn show(self, out: &mut Output) {
+        out.field(self, 16);
+    }
+}
+
+impl Shown for f32 {
+    fn show(self, out: &mut Output) {
+        out.float(self);
+    }
+}
+
+impl Shown for bool {
+    fn show(self, out: &mut Output) {
+        out.flag(self);
+    }
 }
 
 impl Output {
@@ -50,26 +66,20 @@ impl Output {
     }
 
     // The low `digits` hexadecimal digits of a number.
-    fn hex(&mut self, n: u64, digits: u32)
-        requires { digits ≤ 16 }
-    {
-        for i in (0..digits).rev() {
-            self.byte(glyph(((n >> (4 * i)) % 16) as u8));
+    fn hex(&mut self, n: u64, digits: u32) {
+        for i in (0..digits.min(16)).rev() {
+            self.byte(b"0123456789ABCDEF"[(n >> (4 * i)) as usize % 16]);
         }
     }
 
     // A blank, and the digits.
-    pub fn field(&mut self, n: u64, digits: u32)
-        requires { digits ≤ 16 }
-    {
+    pub fn field(&mut self, n: u64, digits: u32) {
         self.byte(b' ');
         self.hex(n, digits);
     }
 
     // A blank and so many digits for each number.
-    pub fn fields(&mut self, numbers: &[u64], digits: u32)
-        requires { digits ≤ 16 }
-    {
+    pub fn fields(&mut self, numbers: &[u64], digits: u32) {
         for n in numbers {
             self.field(*n, digits);
         }
@@ -80,23 +90,31 @@ impl Output {
         self.field(u64::from(bits_of_f32(x)), 8);
     }
 
-    // A refusal by its number, which is 1, or 16, 17 or 18 in two hexadecimal digits.
-    pub fn refused(&mut self, number: u8) {
-        self.text(b" refused");
+    pub fn flag(&mut self, flag: bool) {
+        self.field(u64::from(flag), 1);
+    }
+
+    // An answer's number, 0 for success, in one hexadecimal digit or in two.
+    fn number(&mut self, number: u8) {
         self.field(u64::from(number), if number < 16 { 1 } else { 2 });
     }
 
-    pub fn raw(&mut self, raw: Result<u64, RawError>) {
-        match raw {
-            Ok(x) => self.field(x, 16),
-            Err(error) => self.refused(error as u8),
+    // 0, or the refusal's number.
+    pub fn done<E: Into<u8>>(&mut self, answer: Result<(), E>) {
+        match answer {
+            Ok(_) => self.number(0),
+            Err(error) => self.number(error.into()),
         }
     }
 
-    pub fn value(&mut self, value: Result<f32, ExtractError>) {
-        match value {
-            Ok(x) => self.float(x),
-            Err(error) => self.refused(error as u8),
+    // A value in its form, or the refusal's number behind a word.
+    pub fn told<T: Shown, E: Into<u8>>(&mut self, answer: Result<T, E>) {
+        match answer {
+            Ok(value) => value.show(self),
+            Err(error) => {
+                self.text(b" refused");
+                self.number(error.into());
+            }
         }
     }
 

@@ -6,56 +6,75 @@ use bits::{ByteOrder, extract_raw, write_raw};
 use conversion::{extract_signal, extract_signal_raw, nearest_i64, nearest_u64};
 use detector::sqrt_approx;
 
-// `r`: the raw number of a signal.
-fn raw(fields: &mut Fields, data: &mut [u8], out: &mut Output) {
+#[derive(Clone, Copy)]
+pub enum Call {
+    ExtractRaw,
+    WriteRaw,
+    ExtractSignal,
+    NearestU64,
+    NearestI64,
+    SqrtApprox,
+    Render,
+}
+
+impl TryFrom<u8> for Call {
+    type Error = ();
+
+    fn try_from(letter: u8) -> Result<Call, ()> {
+        match letter {
+            b'r' => Ok(Call::ExtractRaw),
+            b'w' => Ok(Call::WriteRaw),
+            b'x' => Ok(Call::ExtractSignal),
+            b'n' => Ok(Call::NearestU64),
+            b'i' => Ok(Call::NearestI64),
+            b'q' => Ok(Call::SqrtApprox),
+            b'l' => Ok(Call::Render),
+            _ => Err(()),
+        }
+    }
+}
+
+// The raw number of a signal.
+fn raw(fields: &mut Fields, out: &mut Output) {
     let order: ByteOrder = fields.read();
     let start: u16 = fields.read();
     let length: u8 = fields.read();
     let data_len: usize = fields.read();
-    let n = fields.bytes(data);
-    out.raw(extract_raw(&data[..n], data_len, order, start, length));
+    out.told(extract_raw(fields.bytes(), data_len, order, start, length));
 }
 
-// `w`: a raw number written, and the bytes then.
-fn write(fields: &mut Fields, data: &mut [u8], out: &mut Output) {
+// A raw number written, and the bytes then.
+fn write(fields: &mut Fields, out: &mut Output) {
     let order: ByteOrder = fields.read();
     let start: u16 = fields.read();
     let length: u8 = fields.read();
     let data_len: usize = fields.read();
     let raw: u64 = fields.read();
-    let n = fields.bytes(data);
-    let number = match write_raw(&mut data[..n], data_len, order, start, length, raw) {
-        Ok(()) => 0,
-        Err(error) => error as u8,
-    };
-    out.field(u64::from(number), 1);
-    out.bytes(&data[..n]);
+    let data = fields.bytes();
+    out.done(write_raw(data, data_len, order, start, length, raw));
+    out.bytes(data);
 }
 
-// `x`: the raw number and the physical value by a definition.
-fn signal(fields: &mut Fields, data: &mut [u8], out: &mut Output) {
+// The raw number and the physical value by a definition.
+fn signal(fields: &mut Fields, out: &mut Output) {
     let definition = fields.definition();
     let data_len: usize = fields.read();
-    let n = fields.bytes(data);
-    out.raw(extract_signal_raw(&data[..n], data_len, definition));
-    out.value(extract_signal(&data[..n], data_len, definition));
+    let data = fields.bytes();
+    out.told(extract_signal_raw(data, data_len, definition));
+    out.told(extract_signal(data, data_len, definition));
 }
 
-// The answer to a call that keeps no state: `n` and `i` are the f32 nearest to an unsigned and to a signed number, `q` the square
-// root. Any other line is left out.
-pub fn answer(letter: u8, fields: &mut Fields, data: &mut [u8], out: &mut Output) {
-    if !matches!(letter, b'r' | b'w' | b'x' | b'n' | b'i' | b'q' | b'l') {
-        return;
-    }
-    out.byte(letter);
-    match letter {
-        b'r' => raw(fields, data, out),
-        b'w' => write(fields, data, out),
-        b'x' => signal(fields, data, out),
-        b'n' => out.float(nearest_u64(fields.read())),
-        b'i' => out.float(nearest_i64(fields.read())),
-        b'q' => out.float(sqrt_approx(fields.read())),
-        _ => rendering::answer(fields, data, out),
+// The answer to a call that keeps no state.
+pub fn answer(call: Call, fields: &mut Fields, out: &mut Output) {
+    out.byte(fields.letter);
+    match call {
+        Call::ExtractRaw => raw(fields, out),
+        Call::WriteRaw => write(fields, out),
+        Call::ExtractSignal => signal(fields, out),
+        Call::NearestU64 => out.float(nearest_u64(fields.read())),
+        Call::NearestI64 => out.float(nearest_i64(fields.read())),
+        Call::SqrtApprox => out.float(sqrt_approx(fields.read())),
+        Call::Render => rendering::answer(fields, out),
     }
     out.byte(b'\n');
 }

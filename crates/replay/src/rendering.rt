@@ -14,6 +14,7 @@ fn answer_of(case: u64, number: u64) -> Answer {
 }
 
 // The line that kind and numbers stand for: 0 is a definition's line, 1 a removal's, 2 an anomaly's, any other the end line.
+// By number, as a script has it: what x, y and z are hangs on the kind.
 fn line_of(kind: u64, record: u32, x: u64, y: u64, z: u64) -> LogLine {
     match kind {
         0 => LogLine::Defined(record, answer_of(x, y)),
@@ -30,17 +31,17 @@ fn line_of(kind: u64, record: u32, x: u64, y: u64, z: u64) -> LogLine {
     }
 }
 
-// `l`: one line, and the bytes of the buffer then.
-pub fn answer(fields: &mut Fields, data: &mut [u8], out: &mut Output) {
+// One line, and the bytes of the buffer then.
+pub fn answer(fields: &mut Fields, out: &mut Output) {
     let kind: u64 = fields.read();
     let record: u32 = fields.read();
     let x: u64 = fields.read();
     let y: u64 = fields.read();
     let z: u64 = fields.read();
-    let n = fields.bytes(data);
-    match render(line_of(kind, record, x, y, z), &mut data[..n]) {
+    let data = fields.bytes();
+    match render(line_of(kind, record, x, y, z), data) {
         Ok(length) => out.field(length as u64, 2),
         Err(_) => out.text(b" none"),
     }
-    out.bytes(&data[..n]);
+    out.bytes(data);
 }

@@ -87,18 +87,35 @@ fn digit(b: u8) -> Option<u8>
     Some(d as u8)
 }
 
-// The fields of a line that are not read yet.
-#[derive(Drop)]
-pub struct Fields<'a> {
-    rest: &'a [u8],
+// The bytes that the digits stand for, into the front of `out`, and how many there are.
+fn read_bytes(digits: &[u8], out: &mut [u8]) -> usize
+    ensures { IsPrefixLen result out.new }
+{
+    let most = out.len();
+    for (n, pair) in digits.chunks_exact(2).take(most).enumerate() {
+        let (Some(high), Some(low)) = (digit(pair[0]), digit(pair[1])) else {
+            return n;
+        };
+        out[n] = high * 16 + low;
+    }
+    most.min(digits.len() / 2)
 }
 
-impl<'a> Fields<'a> {
-    // Those behind the letter and its blank.
-    pub fn of_line(line: &'a [u8]) -> Fields<'a> {
-        Fields {
-            rest: &line[line.len().min(2)..],
-        }
+// The letter of a line, its fields that are not read yet, and a buffer for its bytes.
+// Apart from `Output`: the answers stay through the script, and these last for one line.
+#[derive(Drop)]
+pub struct Fields<'a, 'd> {
+    pub letter: u8,
+    rest: &'a [u8],
+    data: &'d mut [u8],
+}
+
+impl<'a, 'd> Fields<'a, 'd> {
+    // None for a line without a letter, else the fields behind the letter and its blank.
+    pub fn of_line(line: &'a [u8], data: &'d mut [u8]) -> Option<Fields<'a, 'd>> {
+        let letter = *line.first()?;
+        let rest = &line[line.len().min(2)..];
+        Some(Fields { letter, rest, data })
     }
 
     // The next number. A field that is missing is 0.
@@ -121,20 +138,10 @@ impl<'a> Fields<'a> {
         T::of(self.number())
     }
 
-    // The bytes that stand next, into the front of `out`, and how many there are.
-    pub fn bytes(&mut self, out: &mut [u8]) -> usize
-        ensures { IsPrefixLen result out.new }
-    {
-        let rest = self.rest;
-        let mut n = 0;
-        while n < out.len() && 2 * n + 1 < rest.len() {
-            let (Some(high), Some(low)) = (digit(rest[2 * n]), digit(rest[2 * n + 1])) else {
-                return n;
-            };
-            out[n] = high * 16 + low;
-            n += 1;
-        }
-        n
+    // The bytes at the end of the line, as many as the buffer holds.
+    pub fn bytes(&mut self) -> &mut [u8] {
+        let n = read_bytes(self.rest, self.data);
+        &mut self.data[..n]
     }
 
     // The definition that stands next.

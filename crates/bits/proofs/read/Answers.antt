@@ -9,7 +9,7 @@ use Rattle.bits.proofs.read.Goals as goal
 pub returns : goal.returns
 returns c =
     let a = c.args in
-    let below = c.bits_below-below in
+    let below = c.ranked-below in
     let w = c.eight_bytes in
     c.cut.ensures
     ∙ within a.«data».now a.order (8 * c.min-at.result) 64 a.m a.len below.result w.result w.ensures below.ensures.0 (omega arith) (omega arith) (omega arith)

@@ -1,13 +1,8 @@
--- `frames::process_frame` meets its contract: `process` of the effective identifier, the type, the data bytes and the payload length.
+-- `frames::process_frame` meets its contract: a frame is its header with its data bytes.
 -- Assumes nothing.
 use mathlib.Core.Path.{ap, ◌∙◌}
-use Prim.Native.Nat.{ℕ}
-use Rattle.frames.specs.Frames.{effective_of, processed}
+use Rattle.frames.specs.Frames.{processed_frame}
 use Rattle.frames.proofs.process_frame.Goals as goal
 
 pub returns : goal.returns
-returns c =
-    let a = c.args in
-    c.process.ensures
-    ∙ ap (λ (i : ℕ). processed a.engine i a.frame.is_extended a.frame.«data» c.payload_len.result) c.effective_can_id.ensures
-    ∙ ap (processed a.engine (effective_of a.frame) a.frame.is_extended a.frame.«data») c.payload_len.ensures
+returns c = c.process_lent_frame.ensures ∙ ap (processed_frame c.args.engine) c.header.ensures

@@ -5,4 +5,4 @@ use Rattle.host.specs.Answers.{handed}
 use Rattle.host.proofs.detector_new.Goals as goal
 
 pub returns : goal.returns
-returns c = c.into.ensures ∙ ap (handed idle) c.new.ensures
+returns c = c.handed_over.ensures ∙ ap (handed idle) c.new.ensures

@@ -2,7 +2,6 @@
 use mathlib.Core.Path.{ap, ◌∙◌}
 use Rattle.detector.specs.Answers.{Configured}
 use Rattle.host.specs.Answers.{handed}
-use Rattle.host.proofs.Numbers.{number_is}
 use Rattle.host.proofs.detector_set_freeze_duration.Goals as goal
 
 pub returns-in-Ok : goal.returns-in-Ok
@@ -13,4 +12,4 @@ returns-in-Ok c =
 pub returns-in-Err : goal.returns-in-Err
 returns-in-Err c =
     let d = c.args.detector.now in
-    (ap (λ (m : Configured). (handed d m).detector) c.in-Err.ensures, number_is c.in-Err.error ∙ ap (λ (m : Configured). (handed d m).refusal) c.in-Err.ensures)
+    (ap (λ (m : Configured). (handed d m).detector) c.in-Err.ensures, (c.from-in-Err.ensures ∙ c.from.ensures) ∙ ap (λ (m : Configured). (handed d m).refusal) c.in-Err.ensures)

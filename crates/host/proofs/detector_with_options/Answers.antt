@@ -5,4 +5,4 @@ use Rattle.host.specs.Answers.{handed}
 use Rattle.host.proofs.detector_with_options.Goals as goal
 
 pub returns : goal.returns
-returns c = c.into.ensures ∙ ap (handed idle) c.with_options.ensures
+returns c = c.handed_over.ensures ∙ ap (handed idle) c.with_options.ensures

@@ -25,20 +25,20 @@ pub returns-then-not-goes_on : goal.returns-then-not-goes_on
 returns-then-not-goes_on c =
     told c.answer.ensures (call_last c.loop-out.invariant c.loop-out-test.true _ c.item_at_front.ensures _ (found c.in-Ok-Some-Call.is c.in-Ok-Some-Call.field-0-is c.in-Ok-Some-Call.field-0-0-is) c.on_request-r.ensures (sym c.goes_on.ensures ∙ c.if-not-goes_on.true))
 
-pub loop-out-smaller-in-Ok-Some-Call : goal.loop-out-smaller-in-Ok-Some-Call
-loop-out-smaller-in-Ok-Some-Call c =
+pub loop-out-smaller-else-not-goes_on : goal.loop-out-smaller-else-not-goes_on
+loop-out-smaller-else-not-goes_on c =
     call_less c.loop-out.invariant c.loop-out-test.true _ c.item_at_front.ensures _ (found c.in-Ok-Some-Call.is c.in-Ok-Some-Call.field-0-is c.in-Ok-Some-Call.field-0-0-is) c.on_request-r.ensures (sym c.goes_on.ensures ∙ c.if-not-goes_on.false)
 
-pub loop-out-preserved-in-Ok-Some-Call : goal.loop-out-preserved-in-Ok-Some-Call
-loop-out-preserved-in-Ok-Some-Call c =
+pub loop-out-preserved-else-not-goes_on : goal.loop-out-preserved-else-not-goes_on
+loop-out-preserved-else-not-goes_on c =
     call_more c.loop-out.invariant c.loop-out-test.true _ c.item_at_front.ensures _ (found c.in-Ok-Some-Call.is c.in-Ok-Some-Call.field-0-is c.in-Ok-Some-Call.field-0-0-is) c.on_request-r.ensures (sym c.goes_on.ensures ∙ c.if-not-goes_on.false)
 
 pub slice_bounds-process_lent_frame-end : goal.slice_bounds-process_lent_frame-end
 slice_bounds-process_lent_frame-end c =
     omega (arith, frame_used c.loop-out.invariant c.loop-out-test.true _ c.item_at_front.ensures _ (found c.in-Ok-Some-Frame.is c.in-Ok-Some-Frame.field-0-is c.in-Ok-Some-Frame.field-0-0-is) _ c.data_size.ensures)
 
-pub overflow_add-count : goal.overflow_add-count
-overflow_add-count c =
+pub overflow_add-log : goal.overflow_add-log
+overflow_add-log c =
     omega (arith, frame_counts c.loop-out.invariant c.loop-out-test.true _ c.item_at_front.ensures _ (found c.in-Ok-Some-Frame.is c.in-Ok-Some-Frame.field-0-is c.in-Ok-Some-Frame.field-0-0-is) _ c.data_size.ensures)
 
 pub loop-out-preserved : goal.loop-out-preserved

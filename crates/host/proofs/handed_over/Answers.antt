@@ -1,4 +1,4 @@
--- `MadeDetector::from` meets its contract. Assumes nothing.
+-- `host::handed_over` meets its contract. Assumes nothing.
 use mathlib.Core.Path.{sym, ap, ◌∙◌}
 use Prim.Native.Nat.{ℕ}
 use Rattle.std.specs.Prelude.{Result}
@@ -8,8 +8,7 @@ use Rattle.detector.specs.Answers.{refusal_number, made_means}
 use Rattle.detector.specs.Ewma.{idle}
 use Rattle.host.specs.declared.MadeDetector.{MadeDetector}
 use Rattle.host.specs.Answers.{handed}
-use Rattle.host.proofs.Numbers.{number_is}
-use Rattle.host.proofs.MadeDetectorFromResultEwmaDetectorDetectorError.from.Goals as goal
+use Rattle.host.proofs.handed_over.Goals as goal
 
 abbrev answer : Result EwmaDetector DetectorError → MadeDetector
 answer m = handed idle (made_means m)
@@ -21,4 +20,4 @@ pub returns-in-Ok : goal.returns-in-Ok
 returns-in-Ok c = sym (ap answer c.in-Ok.is)
 
 pub returns-in-Err : goal.returns-in-Err
-returns-in-Err c = ap (beside c.idle.result) (number_is c.in-Err.error) ∙ ap (λ (d : EwmaDetector). beside d (refusal_number c.in-Err.error)) c.idle.ensures ∙ sym (ap answer c.in-Err.is)
+returns-in-Err c = ap (beside c.idle.result) ((c.from-in-Err.ensures ∙ c.from.ensures)) ∙ ap (λ (d : EwmaDetector). beside d (refusal_number c.in-Err.error)) c.idle.ensures ∙ sym (ap answer c.in-Err.is)

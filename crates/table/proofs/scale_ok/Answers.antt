@@ -1,0 +1,13 @@
+-- `table::scale_ok` meets its contract: the library's test is `finite`. Assumes nothing.
+use native.Mathlib.Omega.{arith}
+use Rattle.detector.proofs.Floats.{finite_is}
+use Rattle.table.specs.Table.{scale_ok}
+use Rattle.table.proofs.scale_ok.Goals as goal
+
+pub returns-then-is_finite : goal.returns-then-is_finite
+unfolding scale_ok
+returns-then-is_finite c = grind (arith, finite_is)
+
+pub returns-else-is_finite : goal.returns-else-is_finite
+unfolding scale_ok
+returns-else-is_finite c = grind (arith, finite_is)

@@ -122,7 +122,7 @@ impl Line {
 }
 
 // No `Display` and no `io::hex` for the numbers: `write!` promises its text only where it answers Ok, and `io::hex` writes lower case.
-// An upper-case hexadecimal digit.
+// An upper-case hexadecimal digit. Two cases, as `upper` has them.
 fn digit(d: u32) -> u8
     requires { d < 16 }
     ensures { result ≡ upper d }

@@ -93,6 +93,7 @@ fn saturating(count: u64, total: u64, saturated: bool) -> Grown
 }
 
 // One more of both; far from full the flag stays what it was.
+// Beside `saturating`, which would do for all: far from full nothing is asked. The one was not timed without the other.
 fn count_one(count: u64, total: u64, saturated: bool) -> Grown
     ensures { result ≡ both_more count total saturated }
 {
@@ -155,7 +156,7 @@ fn bit(value: u8) -> u64
 }
 
 impl Seen {
-    // The word that a byte's bit is in, by three choices between two words: a `match` branches, and was twice as slow when it was timed with bytes in any order.
+    // The word that a byte's bit is in, by three choices between two words: a `match` branches.
     fn word(self, value: u8) -> u64
         ensures { result ≡ word_of self value }
     {

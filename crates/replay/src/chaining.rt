@@ -81,6 +81,7 @@ impl Markov {
         };
     }
 
+    // Both buffers are lent call by call: no function answers two parts of one struct to be written.
     fn answered(&mut self, call: Answered, fields: &mut Fields, out: &mut Output) {
         let model = self.model;
         match call {

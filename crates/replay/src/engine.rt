@@ -125,6 +125,7 @@ fn on_made(
 }
 
 // The answer to a call: the engine then, if there is one. A call on one that is not there is left out.
+// In the form of detecting's `answer`, and no function for both: what makes an engine reads other fields than what makes a detector.
 pub fn answer(
     engine: Option<SignalIdsEngine>,
     call: Call,

@@ -46,7 +46,7 @@ impl Machine {
         }
     }
 
-    // The answer to one line. Any other letter is left out.
+    // The answer to one line, by the first module that knows the letter. Any other letter is left out.
     fn answer(&mut self, line: &[u8]) {
         let Some(mut fields) = Fields::of_line(line, &mut self.data) else {
             return;

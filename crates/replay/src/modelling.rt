@@ -64,8 +64,8 @@ pub fn summed(before: u64, counts: &[u64]) -> u64 {
 pub fn place_count(fields: &mut Fields, counts: &mut [u64]) {
     let i: usize = fields.read();
     let value: u64 = fields.read();
-    if i < counts.len() {
-        counts[i] = value;
+    if let Some(count) = counts.get_mut(i) {
+        *count = value;
     }
 }
 

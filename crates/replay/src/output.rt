@@ -3,8 +3,7 @@ use bits::ByteOrder;
 use conversion::{Condition, SignalDefinition, bits_of_f32};
 use detector::EwmaDetector;
 
-// The answers so far are the first `len` bytes.
-// An array and its length: what does not fit is left out, and nothing can fail.
+// The answers so far are the first `len` bytes. An array with its length, since there is no heap.
 #[derive(Drop)]
 pub struct Output {
     buffer: [u8; 65536],

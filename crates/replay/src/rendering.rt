@@ -4,7 +4,7 @@ use crate::script::{Field, Fields};
 use can_log::{Answer, LogLine, render};
 use frames::SignalAnomaly;
 
-// What a table call answered: case 0 is a slot, 1 success, any other a refusal.
+// What a table call answered: case 0 is a slot, 1 success, any other a refusal. By number, as `line_of` has its kind.
 fn answer_of(case: u64, number: u64) -> Answer {
     match case {
         0 => Answer::Slot(u16::of(number)),

@@ -87,7 +87,7 @@ fn digit(b: u8) -> Option<u8>
     Some(d as u8)
 }
 
-// The bytes that the digits stand for, into the front of `out`, and how many there are.
+// The bytes that the digits stand for, into the front of `out`, and how many there are. By index: it is the answer where no pair follows.
 fn read_bytes(digits: &[u8], out: &mut [u8]) -> usize
     ensures { IsPrefixLen result out.new }
 {

@@ -4,10 +4,12 @@
  * The oracle's program `steps` writes the file from the original Rust, with the means that document 02 keeps. */
 #include "shedgrommet_detector.h"
 
+#include <float.h>
 #include <inttypes.h>
 #include <math.h>
 #include <stdio.h>
 #include <string.h>
+#include <xmmintrin.h>
 
 enum { ARGUMENTS = 9, ANSWERS = 3, FIELDS = 9, GUARD = 0x5AA5C33C };
 
@@ -104,12 +106,32 @@ static void show(const char *who, const uint32_t *got)
     fprintf(stderr, "\n");
 }
 
+/* A host may let the processor's flag for an invalid operation trap: no call raises it for a float that is infinite, whose square is, or that is a quiet NaN. */
+static int raises_no_flag(void)
+{
+    EwmaDetector detector = detector_new(0.5f, 3.0f).detector;
+    _mm_setcsr(_mm_getcsr() & ~(unsigned)_MM_EXCEPT_MASK);
+    detector_new(INFINITY, 3.0f);
+    detector_with_options(0.5f, -INFINITY, 1, 1);
+    detector_update(&detector, 1.0f);
+    detector_update(&detector, FLT_MAX);
+    detector_update(&detector, INFINITY);
+    detector_update(&detector, NAN);
+    detector_recalibrate(&detector, -INFINITY);
+    detector_recalibrate(&detector, NAN);
+    return (_mm_getcsr() & _MM_EXCEPT_INVALID) == 0;
+}
+
 int main(int count, char **words)
 {
     FILE *file = count == 2 ? fopen(words[1], "r") : NULL;
     if (file == NULL) {
         fprintf(stderr, "usage: test STEPS\n");
         return 2;
+    }
+    if (!raises_no_flag()) {
+        fprintf(stderr, "hosts: a call raised the flag for an invalid operation\n");
+        return 1;
     }
     char call;
     int steps = 0;

@@ -82,6 +82,7 @@ impl Line {
     }
 
     // The text as it is.
+    #[inline(always)]
     fn put(&mut self, text: &[u8])
         requires { length self.old + length text.now ≤ 55 }
         ensures text { self.new ≡ self.old ++ text.now }
@@ -100,6 +101,7 @@ impl Line {
         self.put(&hex(n));
     }
 
+    #[inline(always)]
     fn put_decimal(&mut self, n: u32)
         requires { length self.old + 10 ≤ 55 }
         ensures text { self.new ≡ self.old ++ decimal n }
@@ -111,6 +113,7 @@ impl Line {
     }
 
     // The line in a buffer from a place on, and the place behind it.
+    #[inline(always)]
     fn write(&self, out: &mut [u8], at: usize) -> usize
         requires { at + length self.now ≤ length out.old }
         ensures { Put out.old at self.now result out.new }
@@ -150,6 +153,7 @@ fn hex(n: u32) -> [u8; 8]
 }
 
 // The line of a table call, whose letter is D or R.
+#[inline(always)]
 fn answer_line(letter: &[u8; 2], n: u32, answer: Answer) -> Line
     ensures text { result ≡ answer_line letter.now n answer }
     ensures len { length result ≤ 32 }
@@ -174,6 +178,7 @@ fn answer_line(letter: &[u8; 2], n: u32, answer: Answer) -> Line
 }
 
 // The end line: the number of sound records, and the stopping number.
+#[inline(always)]
 fn end_line(n: u32, k: u8) -> Line
     ensures text { result ≡ end_line n k }
     ensures len { length result ≤ 26 }
@@ -237,6 +242,7 @@ pub(crate) fn put_anomalies(out: &mut [u8], at: usize, n: u32, list: &[SignalAno
 }
 
 // Any line.
+#[inline(always)]
 fn line_of(text: LogLine) -> Line
     ensures text { result ≡ text_of text }
     ensures len { length result ≤ 55 }

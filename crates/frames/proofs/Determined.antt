@@ -13,6 +13,10 @@ use Rattle.frames.proofs.effective_can_id.Reads as effective-can-id
 use Rattle.frames.proofs.process_frame.Reads as process-frame
 use Rattle.frames.proofs.process_lent_frame.Reads as process-lent-frame
 use Rattle.frames.proofs.process_raw_frame.Reads as process-raw-frame
+use Rattle.frames.proofs.CountsDefault.default.Reads as counts-default
+use Rattle.frames.proofs.SignalAnomalyDefault.default.Reads as anomaly-default
+use Rattle.frames.specs.declared.Counts.{Counts}
+use Rattle.frames.specs.declared.SignalAnomaly.{SignalAnomaly}
 
 -- ---- the meaning of an answer tells all answers apart: the five cases of an outcome with their values and reasons, a report, a result
 abbrev outcome_for : Finding → Outcome
@@ -97,3 +101,22 @@ process_lent_frame_determined κs a r q s t p p' = processed-settled r q (p ∙ 
 
 pub process_raw_frame_determined : Determines process-raw-frame.Learnt
 process_raw_frame_determined κs a r q s t p p' = processed-settled r q (p ∙ sym p')
+
+-- two counts, or two anomalies, with the same fields are the same
+same_counts : (x y : Counts) → x.condition_not_met ≡ y.condition_not_met → x.outside ≡ y.outside → x.not_finite ≡ y.not_finite → x ≡ y
+same_counts x y a b c =
+    ap (λ n. record { condition_not_met = n; outside = x.outside; not_finite = x.not_finite }) a
+    ∙ ap (λ n. record { condition_not_met = y.condition_not_met; outside = n; not_finite = x.not_finite }) b
+    ∙ ap (λ n. record { condition_not_met = y.condition_not_met; outside = y.outside; not_finite = n }) c
+
+same_anomaly : (x y : SignalAnomaly) → x.slot ≡ y.slot → x.z_score ≡ y.z_score → x.physical_value ≡ y.physical_value → x ≡ y
+same_anomaly x y a b c =
+    ap (λ n. record { slot = n; z_score = x.z_score; physical_value = x.physical_value }) a
+    ∙ ap (λ n. record { slot = y.slot; z_score = n; physical_value = x.physical_value }) b
+    ∙ ap (λ n. record { slot = y.slot; z_score = y.z_score; physical_value = n }) c
+
+pub counts_default_determined : Determines counts-default.Learnt
+counts_default_determined κs a r q s t p p' = same_counts r q (p.0 ∙ sym p'.0) (p.1.0 ∙ sym p'.1.0) (p.1.1 ∙ sym p'.1.1)
+
+pub anomaly_default_determined : Determines anomaly-default.Learnt
+anomaly_default_determined κs a r q s t p p' = same_anomaly r q (p.0 ∙ sym p'.0) (p.1.0 ∙ sym p'.1.0) (p.1.1 ∙ sym p'.1.1)

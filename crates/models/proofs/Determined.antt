@@ -7,6 +7,7 @@ use lib.Dec.{eqb}
 use Rattle.bits.proofs.Promise.{Determines, DeterminesLent}
 use Rattle.std.specs.Prelude.{Result, Ok, Err}
 use Rattle.models.specs.declared.Changed.{Changed}
+use Rattle.models.specs.declared.Seen.{Seen}
 use Rattle.models.specs.declared.Misfit.{Misfit}
 use Rattle.models.specs.declared.HistogramDetector.{HistogramDetector}
 use Rattle.models.specs.declared.MarkovDetector.{MarkovDetector}
@@ -26,6 +27,7 @@ use Rattle.models.proofs.MarkovDetector.score_transition.Reads as score-transiti
 use Rattle.models.proofs.MarkovDetector.reset.Reads as states_reset
 use Rattle.models.proofs.MarkovDetector.saturated.Reads as states-saturated
 use Rattle.models.proofs.U8FromMisfit.from.Reads as number
+use Rattle.models.proofs.SeenDefault.default.Reads as seen-default
 
 -- ---- the meaning of an answer tells all answers apart
 
@@ -111,3 +113,14 @@ states_saturated_determined κs a r q s t p p' = p ∙ sym p'
 
 pub number_determined : Determines number.Learnt
 number_determined κs a r q s t p p' = p ∙ sym p'
+
+-- two maps with the same four words are the same
+same_seen : (x y : Seen) → x.from_0 ≡ y.from_0 → x.from_64 ≡ y.from_64 → x.from_128 ≡ y.from_128 → x.from_192 ≡ y.from_192 → x ≡ y
+same_seen x y a b c d =
+    ap (λ n. record { from_0 = n; from_64 = x.from_64; from_128 = x.from_128; from_192 = x.from_192 }) a
+    ∙ ap (λ n. record { from_0 = y.from_0; from_64 = n; from_128 = x.from_128; from_192 = x.from_192 }) b
+    ∙ ap (λ n. record { from_0 = y.from_0; from_64 = y.from_64; from_128 = n; from_192 = x.from_192 }) c
+    ∙ ap (λ n. record { from_0 = y.from_0; from_64 = y.from_64; from_128 = y.from_128; from_192 = n }) d
+
+pub seen_default_determined : Determines seen-default.Learnt
+seen_default_determined κs a r q s t p p' = same_seen r q (p.0 ∙ sym p'.0) (p.1.0 ∙ sym p'.1.0) (p.1.1.0 ∙ sym p'.1.1.0) (p.1.1.1 ∙ sym p'.1.1.1)

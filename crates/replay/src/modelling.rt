@@ -1,4 +1,6 @@
 // Calls on the histogram that the script keeps, and on its counts. The counts that a call is lent are the first ones of a buffer.
+ghost use Rattle.std.specs.Prelude.{◌≡◌, ◌≤◌, length, take};
+
 use crate::output::Output;
 use crate::script::Fields;
 use models::{Changed, HistogramDetector, Seen};
@@ -42,7 +44,9 @@ impl TryFrom<u8> for Call {
 }
 
 // The counts that a call is lent: as many as the script says, or all.
-pub fn lent<'c>(fields: &mut Fields, counts: &'c mut [u64]) -> &'c mut [u64] {
+pub fn lent<'c>(fields: &mut Fields, counts: &'c mut [u64]) -> &'c mut [u64]
+    ensures { (length result.now ≤ length counts.old) × (result.now ≡ take (length result.now) counts.old) }
+{
     let asked: usize = fields.read();
     let n = asked.min(counts.len());
     &mut counts[..n]

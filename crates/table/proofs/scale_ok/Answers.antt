@@ -1,13 +1,12 @@
--- `table::scale_ok` meets its contract: the library's test is `finite`. Assumes nothing.
+-- `table::scale_ok` meets its contract: its two tests are conversion's `is_finite`. Assumes nothing.
 use native.Mathlib.Omega.{arith}
-use Rattle.detector.proofs.Floats.{finite_is}
 use Rattle.table.specs.Table.{scale_ok}
 use Rattle.table.proofs.scale_ok.Goals as goal
 
 pub returns-then-is_finite : goal.returns-then-is_finite
 unfolding scale_ok
-returns-then-is_finite c = grind (arith, finite_is)
+returns-then-is_finite c = grind (arith)
 
 pub returns-else-is_finite : goal.returns-else-is_finite
 unfolding scale_ok
-returns-else-is_finite c = grind (arith, finite_is)
+returns-else-is_finite c = grind (arith)

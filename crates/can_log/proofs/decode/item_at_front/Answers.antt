@@ -44,10 +44,10 @@ returns-then-is_misplaced c =
 
 pub returns-in_err-record_of : goal.returns-in_err-record_of
 returns-in_err-record_of c =
-    let why =
-    c.in_err-record_of.ensures
-    ∙ front.whole _ _ (some c.is_empty.ensures c.if-is_empty.false) c.if-count-eq4294967295.false c.if-s-eq1.false _ _ (is_known _ c.in_ok-k.ensures) c.size-n.ensures _
+    let whole =
+    front.whole _ _ (some c.is_empty.ensures c.if-is_empty.false) c.if-count-eq4294967295.false c.if-s-eq1.false _ _ (is_known _ c.in_ok-k.ensures) c.size-n.ensures _
     c.is_misplaced.ensures c.if-is_misplaced.false c.if-s-n.false in
+    let why = c.in_err-record_of.ensures ∙ whole in
     grind (arith, why)
 
 pub returns : goal.returns
